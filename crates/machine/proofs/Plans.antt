@@ -1,0 +1,114 @@
+-- The plan is one plan, visits every marked couple and no other, and is what the computation gives. Assumes nothing.
+use mathlib.Core.Path.{_≡_, refl, sym, ap, ap₂, subst, subst₂, _∙_}
+use mathlib.Core.Logic.{_⊎_, _↔_, ⊎-elim, inl, inr}
+use mathlib.Core.List.{List, [], _∷_, _++_}
+use mathlib.Core.Bool.{Bool, true, false, not}
+use Prim.Native.Nat.{ℕ, zero, suc, _+_, _*_, _/_, _%_, _^_, _≤_, _<_}
+use native.Mathlib.Nat.{le-refl}
+use native.Mathlib.Omega.{arith}
+use lib.ListN.{length, getD}
+use lib.Dec.{eqb}
+use borrow.Author.Tests.{eq-eqb, ne-eqb}
+use Rattle.machine.specs.Lists.{In, pick}
+use Rattle.machine.specs.Runs.{Machine, size, couples, couple, move, Sound, Run, visits, Visitor, Marked, Rank, RankOrUnmarked}
+use Rattle.machine.specs.Shortest.{RunTo, Parent}
+use Rattle.machine.specs.Model.{followed, among, visited, planned, planOf, Listed}
+use Rattle.machine.specs.Boards.{Board, readings, specified, Differ, Alike}
+use Rattle.machine.specs.Plans.{VisitedBy, Plan}
+use Rattle.machine.specs.Plans.Plan.{empty, pass, add}
+use Rattle.machine.proofs.Order.{equal-or}
+use Rattle.machine.proofs.Tests.{Told, told-by, told-equal, told-either}
+use Rattle.machine.proofs.Shortest.{run-to-unique, followed-run}
+use Rattle.machine.proofs.Exists.{marked-below}
+use Rattle.machine.proofs.Readings.{board-theorem}
+
+in-front : {A : Type 0} (x : A) (xs ys : List A) → In x xs → In x (xs ++ ys)
+in-front x [] ys i = absurd i
+in-front x (y ∷ xs) ys i = ⊎-elim inl (λ j. inr (in-front x xs ys j)) i
+
+at-end : {A : Type 0} (x : A) (xs : List A) → In x (xs ++ (x ∷ []))
+at-end x [] = inl refl
+at-end x (y ∷ xs) = inr (at-end x xs)
+
+from-both : {A : Type 0} (x : A) (xs : List A) (y : A) → In x (xs ++ (y ∷ [])) → In x xs ⊎ (x ≡ y)
+from-both x [] y i = ⊎-elim inr absurd i
+from-both x (z ∷ xs) y i = ⊎-elim (λ e. inl (inl e)) (λ j. ⊎-elim (λ k. inl (inr k)) inr (from-both x xs y j)) i
+
+longer : (m : Machine) (c : ℕ) (plan : List (List ℕ)) (ws : List ℕ) → VisitedBy m c plan → VisitedBy m c (plan ++ (ws ∷ []))
+longer m c plan ws (vs, i, j) = (vs, in-front vs plan (ws ∷ []) i, j)
+
+module _ {m : Machine} (ok : Sound m) where
+  pub plan-unique : {t : ℕ} {p q : List (List ℕ)} → Plan m t p → Plan m t q → p ≡ q
+  plan-unique empty empty = refl
+  plan-unique (pass x f) (pass y g) = plan-unique x y
+  plan-unique (pass {c} x f) (add {vs = vs} y n r) = absurd (n (subst (VisitedBy m c) (plan-unique x y) (f (vs, r .visitor))))
+  plan-unique (add {c} {vs = vs} x n r) (pass y g) = absurd (n (subst (VisitedBy m c) (sym (plan-unique x y)) (g (vs, r .visitor))))
+  plan-unique (add {c} {plan} {vs} x n r) (add {plan = q} {vs = ws} y k s) =
+      ap₂ (λ (a : List (List ℕ)) (b : List ℕ). a ++ (b ∷ [])) (plan-unique x y) (run-to-unique ok c vs ws r s)
+
+-- each member is a run
+pub plan-runs : {m : Machine} {t : ℕ} {p : List (List ℕ)} → Plan m t p → (vs : List ℕ) → In vs p → Run m vs
+plan-runs empty vs i = absurd i
+plan-runs (pass x f) vs i = plan-runs x vs i
+plan-runs {m} (add {plan = plan} {vs = ws} x n r) vs i = ⊎-elim (λ j. plan-runs x vs j) (λ e. subst (Run m) (sym e) (r .visitor .run)) (from-both vs plan ws i)
+
+-- each marked couple below t is visited
+pub plan-visits : {m : Machine} {t : ℕ} {p : List (List ℕ)} → Plan m t p → (c : ℕ) → c < t → Marked m c → VisitedBy m c p
+plan-visits empty c l x = absurd (omega arith)
+plan-visits {m} (pass {c = d} {plan = plan} y f) c l x = ⊎-elim
+    (λ e. subst (λ (k : ℕ). VisitedBy m k plan) (sym e) (f (subst (Marked m) e x)))
+    (λ (e : c ≡ d → ⊥). plan-visits y c (omega arith) x)
+    (equal-or c d)
+plan-visits {m} (add {c = d} {plan = plan} {vs = vs} y n r) c l x = ⊎-elim
+    (λ e. (vs, at-end vs plan, subst (λ (k : ℕ). In k (visits m vs)) (sym e) (r .visitor .sees)))
+    (λ (e : c ≡ d → ⊥). longer m c plan vs (plan-visits y c (omega arith) x))
+    (equal-or c d)
+
+-- and no couple that is not marked
+pub plan-marked : {m : Machine} {t : ℕ} {p : List (List ℕ)} → Plan m t p → (c : ℕ) → VisitedBy m c p → Marked m c
+plan-marked x c (vs, i, j) = (vs, record { run = plan-runs x vs i; sees = j })
+
+among-or : (c : ℕ) (ds : List ℕ) → Told (among c ds) (In c ds)
+unfolding among
+among-or c [] = inr (refl, λ i. i)
+among-or c (d ∷ ds) = told-either (told-equal c d) (among-or c ds)
+
+visited-or : (m : Machine) (c : ℕ) (plan : List (List ℕ)) → Told (visited m c plan) (VisitedBy m c plan)
+unfolding visited
+visited-or m c [] = inr (refl, λ x. x .1)
+visited-or m c (vs ∷ plan) = told-by to of (told-either (among-or c (visits m vs)) (visited-or m c plan))
+  where
+    to : In c (visits m vs) ⊎ VisitedBy m c plan → VisitedBy m c (vs ∷ plan)
+    to (inl i) = (vs, inl refl, i)
+    to (inr (ws, i, j)) = (ws, inr i, j)
+
+    of : VisitedBy m c (vs ∷ plan) → In c (visits m vs) ⊎ VisitedBy m c plan
+    of (ws, i, j) = ⊎-elim (λ e. inl (subst (λ us. In c (visits m us)) e j)) (λ k. inr (ws, k, j)) i
+
+module _ {m : Machine} (marked : ℕ → Bool) (runTo : ℕ → List ℕ) where
+  -- the computation gives the plan
+  pub planned-plan : (t : ℕ) → ((c : ℕ) → c < t → ((marked c ≡ true) × RunTo m c (runTo c)) ⊎ ((marked c ≡ false) × (Marked m c → ⊥))) → Plan m t (planned m marked runTo t)
+  unfolding planned
+  planned-plan zero all = empty
+  planned-plan (suc t) all =
+      let x = planned-plan t (λ c l. all c (omega arith)) in ⊎-elim
+      (λ e. rw (e .0) (⊎-elim
+      (λ f. rw (f .0) (pass x (λ y. f .1)))
+      (λ f. rw (f .0) (add x (f .1) (e .1)))
+      (visited-or m t (planned m marked runTo t))))
+      (λ e. rw (e .0) (pass x (λ y. absurd (e .1 y))))
+      (all t (le-refl _))
+
+module _ {m : Machine} (ok : Sound m) where
+  pub listed-plan : (ranks parents : List ℕ) → Listed m ranks parents → Plan m (couples m) (planOf m ranks parents)
+  listed-plan ranks parents x = planned-plan _ _ (couples m) (λ c l. ⊎-elim
+      (λ r. inl (rw (ne-eqb (getD ranks c 0) 65535 (λ e. omega (arith, r .0))) refl, followed-run ok (λ d. getD parents d 0) (x .parent) (getD ranks c 0) c (r .1)))
+      (λ r. inr (rw (r .0) refl, r .1))
+      (x .rank c l))
+
+  -- Demand 3 of the plan: matching readings on all its runs, and equal moves at all marked couples.
+  pub plan-theorem : {word : ℕ → ℕ} → Differ m word → {b : Board} → Alike m word b → {plan : List (List ℕ)} → Plan m (couples m) plan
+      → ((vs : List ℕ) → In vs plan → readings b vs ≡ readings (specified m word) vs)
+      ↔ ((s v : ℕ) → s < m .states → v < size m → Marked m (couple m s v) → b .moves s v ≡ move m s v)
+  plan-theorem differ like {plan} x =
+      board-theorem ok differ like plan (plan-runs x) (λ c y. plan-visits x c (marked-below ok y) y)

@@ -1,0 +1,129 @@
+-- The laws of rounds. Assumes nothing.
+use mathlib.Core.Path.{_≡_, refl, sym, ap, subst, subst₂, _∙_}
+use mathlib.Core.Logic.{_⊎_, ⊎-elim, inl, inr}
+use mathlib.Core.List.{List, [], _∷_}
+use Prim.Native.Nat.{ℕ, zero, suc, _+_, _*_, _-_, _^_, _≤_, _<_, zero-le}
+use native.Mathlib.Nat.{le-refl}
+use native.Mathlib.Omega.{arith}
+use lib.ListN.{length, getD}
+use Rattle.machine.specs.Runs.{Machine, couples, couple, Sound, Rank, Marked, RankOrUnmarked}
+use Rattle.machine.specs.Shortest.{Steps, Parent}
+use Rattle.machine.specs.Model.{Listed}
+use Rattle.machine.specs.Rounds.{Begins, Started, Least, Turned, Round, Given, Ranked, Level}
+use Rattle.machine.specs.Rounds.Turned.{kept, found, none}
+use Rattle.machine.specs.Rounds.Given.{given, same}
+use Rattle.machine.specs.Rounds.Ranked.{ranked, unranked}
+use Rattle.machine.proofs.Order.{below-or, equal-or}
+use Rattle.machine.proofs.Trails.{Trail}
+use Rattle.machine.proofs.Shortest.{some-trail, trail-rank, rank-trail, rank-has}
+use Rattle.machine.proofs.Exists.{trail-marked, marked-below, marked-rank, parent-exists}
+use Rattle.machine.proofs.Small.{rank-unique, rank-small, ranks-along}
+
+least-more : {m : Machine} {R : List ℕ} {k t c p : ℕ} → Least m R k t c p → Least m R k (suc t) c p
+least-more {t = t} x = record {
+  below = omega (arith, x .below);
+  steps = x .steps;
+  ranked = x .ranked;
+  least = λ q l s e. ⊎-elim (λ h. x .least q h s e) (λ h. omega (arith, x .below)) (below-or q t);
+}
+
+-- a round's loop over the couples
+module _ {m : Machine} {k : ℕ} {R P : List ℕ} where
+  pub turned-none : (c : ℕ) → Turned m k 0 R P R P c
+  turned-none c = ⊎-elim (λ e. none e (λ p l. absurd (omega arith)) e) (λ e. kept e refl refl) (equal-or (getD R c 0) 65535)
+
+  -- past a couple that is not of rank k, or does not rest
+  pub turned-skip : {t c : ℕ} {R′ P′ : List ℕ} → (Steps m t c → getD R t 0 ≡ k → ⊥) → Turned m k t R P R′ P′ c → Turned m k (suc t) R P R′ P′ c
+  turned-skip n (kept ne e f) = kept ne e f
+  turned-skip n (found g x e) = found g (least-more x) e
+  turned-skip {t} {c} n (none g never e) = none g
+      (λ p l s f. ⊎-elim (λ q. n (subst (λ (d : ℕ). Steps m d c) q s) (ap (λ (d : ℕ). getD R d 0) (sym q) ∙ f)) (λ (q : p ≡ t → ⊥). never p (omega arith) s f) (equal-or p t)) e
+
+  -- past one that is
+  pub turned-spread : {t c : ℕ} {R′ P′ R″ P″ : List ℕ} → suc k < 65535 → getD R t 0 ≡ k
+      → Turned m k t R P R′ P′ c → Given (Steps m t) (suc k) t R′ P′ R″ P″ c → Turned m k (suc t) R P R″ P″ c
+  turned-spread h r (kept ne e f) (given s g a b) = absurd (ne (sym e ∙ g))
+  turned-spread h r (kept ne e f) (same n a b) = kept ne (a ∙ e) (b ∙ f)
+  turned-spread h r (found g x e) (given s f a b) = absurd (omega arith)
+  turned-spread {t} {c} h r (found g x e) (same n a b) = found g (subst (Least m R k (suc t) c) (sym b) (least-more x)) (a ∙ e)
+  turned-spread {t} {c} h r (none g never e) (given s f a b) = found g
+      (subst (Least m R k (suc t) c) (sym b) (record { below = le-refl (suc t); steps = s; ranked = r; least = λ q l w i. ⊎-elim (λ z. absurd (never q z w i)) (λ z. z) (below-or q t) })) a
+  turned-spread {t} {c} h r (none g never e) (same n a b) = none g
+      (λ p l s f. ⊎-elim (λ q. n (subst (λ (d : ℕ). Steps m d c) q s) e) (λ (q : p ≡ t → ⊥). never p (omega arith) s f) (equal-or p t)) (a ∙ e)
+
+module _ {m : Machine} (ok : Sound m) where
+  rank-below : {c r : ℕ} → Rank m c r → c < couples m
+  rank-below x = marked-below ok (x .some, x .visitor)
+
+  begins : (c : ℕ) → Rank m c 0 → Begins m c
+  begins c x = let (ps, t, e) = rank-has ok x in go ps t e
+    where
+      go : (ps : List ℕ) → Trail m c ps → length ps ≡ 0 → Begins m c
+      go [] t e = t
+      go (p ∷ ps) t e = absurd (omega arith)
+
+  module _ (k : ℕ) (R P : List ℕ) (level : Level m k R P) where
+    -- a rank up to k stands in the list
+    listed-rank : (c r : ℕ) → Rank m c r → r ≤ k → getD R c 0 ≡ r
+    listed-rank c r x l = go (level c (rank-below x))
+      where
+        go : Ranked m k R P c → getD R c 0 ≡ r
+        go (ranked y h p) = rank-unique y x
+        go (unranked e n) = absurd (omega (arith, n r x))
+
+    listed-is : (c : ℕ) → c < couples m → getD R c 0 ≡ k → k < 65535 → Rank m c k
+    listed-is c l e h = go (level c l)
+      where
+        go : Ranked m k R P c → Rank m c k
+        go (ranked y _ p) = subst (Rank m c) e y
+        go (unranked f n) = absurd (omega arith)
+
+    pub level-next : couples m ≤ 65535 → k < 65535 → (R′ P′ : List ℕ) → Round m k R P R′ P′ → Level m (suc k) R′ P′
+    level-next few h R′ P′ round c l = go (round c l) (level c l)
+      where
+        go : Turned m k (couples m) R P R′ P′ c → Ranked m k R P c → Ranked m (suc k) R′ P′ c
+        go (kept ne e f) (ranked y i p) = ranked (subst (Rank m c) (sym e) y) (omega arith) (λ r q. subst (Parent m r c) (sym f) (p r (sym e ∙ q)))
+        go (kept ne e f) (unranked g n) = absurd (ne g)
+        go (found g x e) (ranked y i p) = absurd (omega (arith, rank-small ok y))
+        go (found g x e) (unranked _ n) =
+            let y = listed-is _ (x .below) (x .ranked) h in
+            let (ps, t, j) = rank-has ok y in
+            let z : Rank m c (suc k) = trail-rank ok (_ ∷ ps) (t, x .steps) (ap suc j) (λ qs u. let (r, w) = trail-marked ok c qs u in omega (arith, n r w, rank-trail ok w qs u)) in
+            ranked (subst (Rank m c) (sym e) z) (omega arith) (λ r q. let i : k ≡ r = omega arith in
+            subst (λ (d : ℕ). Parent m d c (getD P′ c 0)) i
+            (record { steps = x .steps; rank = y; least = λ q s w. x .least q (rank-below w) s (listed-rank q k w (le-refl k)) }))
+        go (none g never e) (ranked y i p) = absurd (omega (arith, rank-small ok y))
+        go (none g never e) (unranked _ n) = unranked e (λ r x. ⊎-elim
+            (λ q. let (p, y) = parent-exists ok (subst (Rank m c) q x) in absurd (never p (rank-below (y .rank)) (y .steps) (listed-rank p k (y .rank) (le-refl k))))
+            (λ (q : r ≡ suc k → ⊥). omega (arith, n r x))
+            (equal-or r (suc k)))
+
+    -- where no couple has rank k after round k, the lists are complete
+    pub level-last : couples m ≤ 65535 → ((c : ℕ) → c < couples m → getD R c 0 ≡ k → ⊥) → Listed m R P
+    level-last few empty = record { rank = λ c l. rank c (level c l); parent = λ r c x. parent r c x (level c (rank-below x)) }
+      where
+        high : {c r : ℕ} → Rank m c r → r < k
+        high {c} {r} x = ⊎-elim (λ l. l)
+            (λ l. let (ps, t, e) = rank-has ok x in
+            let y = ranks-along ok c ps t (subst (Rank m c) (sym e) x) (r - k) (omega arith) in
+            let z : Rank m (getD (c ∷ ps) (r - k) 0) k = subst (Rank m (getD (c ∷ ps) (r - k) 0)) (omega arith) y in
+            absurd (empty _ (rank-below z) (listed-rank _ k z (le-refl k))))
+            (below-or r k)
+
+        rank : (c : ℕ) → Ranked m k R P c → RankOrUnmarked m c (getD R c 0)
+        rank c (ranked y i p) = inl (omega (arith, rank-small ok y), y)
+        rank c (unranked e n) = inr (e, λ x. let (r, y) = marked-rank ok x in omega (arith, n r y, high y))
+
+        parent : (r c : ℕ) → Rank m c (suc r) → Ranked m k R P c → Parent m r c (getD P c 0)
+        parent r c x (ranked y i p) = p r (rank-unique y x)
+        parent r c x (unranked e n) = absurd (omega (arith, n (suc r) x, high x))
+
+    -- no couple has a rank that is not below the number of couples
+    pub level-ends : couples m ≤ k → k < 65535 → (c : ℕ) → c < couples m → getD R c 0 ≡ k → ⊥
+    level-ends few h c l e = omega (arith, rank-small ok (listed-is c l e h))
+
+  pub level-start : (R P : List ℕ) → Started m R → Level m 0 R P
+  level-start R P s c l = ⊎-elim
+      (λ x. ranked (subst (Rank m c) (sym (x .1)) (trail-rank ok [] (x .0) refl (λ qs u. zero-le))) (omega (arith, x .1)) (λ r q. absurd (omega (arith, x .1))))
+      (λ x. unranked (x .1) (λ r y. ⊎-elim (λ e. absurd (x .0 (begins c (subst (Rank m c) e y)))) (λ (e : r ≡ 0 → ⊥). omega arith) (equal-or r 0)))
+      (s c l)

@@ -1,0 +1,11 @@
+pub mod Limits
+pub mod Lists
+pub mod Couples
+pub mod Moves
+pub mod Runs
+pub mod Shortest
+pub mod Plans
+pub mod Boards
+pub mod Flips
+pub mod Rounds
+pub mod Model

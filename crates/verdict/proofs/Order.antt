@@ -1,0 +1,96 @@
+-- Laws of the order of checks: a list of checks has one verdict, so that a pass excludes a refusal, and verdicts of two lists join,
+-- each by induction on the list.
+use mathlib.Core.Path.{_≡_, refl, sym, ap₂, _∙_}
+use mathlib.Core.List.{List, [], _∷_, _++_}
+use Prim.Native.Nat.{ℕ, _≤_, _<_}
+use native.Mathlib.Omega.{arith}
+use native.Mathlib.Nat.{not-suc-le-zero}
+use Rattle.verdict.specs.Checks.{Least, None, Check, check, Then, refused, next, Verdict, Passed, Short, Judged}
+use Rattle.verdict.specs.declared.Answer.{Answer}
+use Rattle.verdict.proofs.Tests.{least-unique}
+
+pub same-answer : (a b : Answer) → a .number ≡ b .number → a .place ≡ b .place → a ≡ b
+same-answer a b n p = ap₂ (λ (m q : ℕ). record { number = m; place = q }) n p
+
+pub passed-unique : (a b : Answer) → Passed a → Passed b → a ≡ b
+passed-unique a b p q = same-answer a b (p .number ∙ sym (q .number)) (p .place ∙ sym (q .place))
+
+pub verdict-unique : (cs : List Check) (done : Answer → Type 0) (only : (a b : Answer) → done a → done b → a ≡ b) (a b : Answer) → Verdict cs done a → Verdict cs done b → a ≡ b
+verdict-unique [] done only a b v w = only a b v w
+verdict-unique (c ∷ cs) done only a b (refused l n) (refused m o) = same-answer a b (n ∙ sym o) (least-unique l m)
+verdict-unique (c ∷ cs) done only a b (refused l n) (next m w) = absurd (m .nowhere (a .place) (l .here))
+verdict-unique (c ∷ cs) done only a b (next n v) (refused l m) = absurd (n .nowhere (b .place) (l .here))
+verdict-unique (c ∷ cs) done only a b (next n v) (next m w) = verdict-unique cs done only a b v w
+
+-- each number is between two bounds; no check fails
+abbrev pub Numbered : ℕ → ℕ → List Check → Type 0
+Numbered low high [] = Unit {0}
+Numbered low high (c ∷ cs) = (low ≤ c .number) × (c .number ≤ high) × Numbered low high cs
+
+abbrev pub Passes : List Check → Type 0
+Passes [] = Unit {0}
+Passes (c ∷ cs) = None (c .fails) × Passes cs
+
+module _ (done : Answer → Type 0) where
+  on : (cs ds : List Check) (high : ℕ) (a b : Answer) → Numbered 1 high cs → Verdict cs Passed a → a .number ≡ 0 → Verdict ds done b → Verdict (cs ++ ds) done b
+  on [] ds high a b num v e w = w
+  on (c ∷ cs) ds high a b num (refused l n) e w = absurd (omega (arith, num .0))
+  on (c ∷ cs) ds high a b num (next n v) e w = next n (on cs ds high a b (num .2) v e w)
+
+  stop : (cs ds : List Check) (a : Answer) → Verdict cs Passed a → (a .number ≡ 0 → ⊥) → Verdict (cs ++ ds) done a
+  stop [] ds a v e = absurd (e (v .number))
+  stop (c ∷ cs) ds a (refused l n) e = refused l n
+  stop (c ∷ cs) ds a (next n v) e = next n (stop cs ds a v e)
+
+-- a verdict that did not refuse goes on with the next list
+pub judged-on : {cs ds : List Check} {done : Answer → Type 0} {a b : Answer} (high : ℕ) → Judged cs Passed a → Numbered 1 high cs → a .number ≡ 0 → Judged ds done b → Judged (cs ++ ds) done b
+judged-on {cs} {ds} {done} {a} {b} high v num e w = record { verdict = on done cs ds high a b num (v .verdict) e (w .verdict) }
+
+-- one that refused is that of the longer list
+pub judged-stop : {cs : List Check} (ds : List Check) {done : Answer → Type 0} {a : Answer} → Judged cs Passed a → (a .number ≡ 0 → ⊥) → Judged (cs ++ ds) done a
+judged-stop {cs} ds {done} {a} v e = record { verdict = stop done cs ds a (v .verdict) e }
+
+passes : (cs : List Check) (high : ℕ) (a : Answer) → Numbered 1 high cs → Verdict cs Passed a → a .number ≡ 0 → Passes cs
+passes [] high a num v e = tt
+passes (c ∷ cs) high a num (refused l n) e = absurd (omega (arith, num .0))
+passes (c ∷ cs) high a num (next n v) e = (n, passes cs high a (num .2) v e)
+
+-- one that did not refuse: no check fails
+pub judged-passes : {cs : List Check} {a : Answer} (high : ℕ) → Judged cs Passed a → Numbered 1 high cs → a .number ≡ 0 → Passes cs
+judged-passes {cs} {a} high v num e = passes cs high a num (v .verdict) e
+
+number : (cs : List Check) (low high : ℕ) (a : Answer) → Numbered low high cs → Verdict cs Passed a → (a .number ≡ 0 → ⊥) → (low ≤ a .number) × (a .number ≤ high)
+number [] low high a num v e = absurd (e (v .number))
+number (c ∷ cs) low high a num (refused l n) e = (omega (arith, num .0), omega (arith, num .1))
+number (c ∷ cs) low high a num (next n v) e = number cs low high a (num .2) v e
+
+-- the number of a refusal
+pub judged-number : {cs : List Check} {a : Answer} (low high : ℕ) → Judged cs Passed a → Numbered low high cs → (a .number ≡ 0 → ⊥) → (low ≤ a .number) × (a .number ≤ high)
+judged-number {cs} {a} low high v num e = number cs low high a num (v .verdict) e
+
+-- a check passed, a check that refuses
+pub pass : {F : ℕ → Type 0} {n : ℕ} {cs : List Check} {done : Answer → Type 0} {a : Answer} → None F → Judged cs done a → Judged (check n F ∷ cs) done a
+pass n v = record { verdict = next n (v .verdict) }
+
+pub halt : {F : ℕ → Type 0} {n p : ℕ} {cs : List Check} {done : Answer → Type 0} → Least F p → Judged (check n F ∷ cs) done (record { number = n; place = p })
+halt l = record { verdict = refused l refl }
+
+pub ends : Judged [] Passed (record { number = 0; place = 0 })
+ends = record { verdict = record { number = refl; place = refl } }
+
+-- one answer, where success has one
+pub judged-only : {cs : List Check} {done : Answer → Type 0} {a b : Answer} → ((a b : Answer) → done a → done b → a ≡ b) → Judged cs done a → Judged cs done b → a ≡ b
+judged-only {cs} {done} {a} {b} one v w = verdict-unique cs done one a b (v .verdict) (w .verdict)
+
+pub judged-unique : {cs : List Check} {a b : Answer} → Judged cs Passed a → Judged cs Passed b → a ≡ b
+judged-unique v w = judged-only passed-unique v w
+
+-- a buffer too short
+pub short : {needed has p : ℕ} → p ≡ needed → has < needed → Least (Short needed has) p
+short e h = record { here = (e, h); first = λ q l f. let g = f .0 in omega arith }
+
+pub long : {needed has : ℕ} → needed ≤ has → None (Short needed has)
+long h = record { nowhere = λ p f. let e = f .1 in omega arith }
+
+pub roomy : {needed has : ℕ} → None (Short needed has) → needed ≤ has
+roomy {needed} {has} n = let f : has < needed → ⊥ = λ h. n .nowhere needed (refl, h) in omega arith

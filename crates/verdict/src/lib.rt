@@ -1,0 +1,13 @@
+// What every job answers, and what a search for a place answers.
+
+// A refusal's number and place; number 0 is success.
+pub struct Answer {
+    pub number: u8,
+    pub place: usize,
+}
+
+// The smallest place that a search found, or nothing.
+pub enum Found {
+    At(usize),
+    Nothing,
+}
