@@ -7,7 +7,9 @@ ghost use Rattle.verdict.specs.Checks.{Decides, Finds, Within};
 ghost use Rattle.machine.specs.Limits.{mostInputs, mostStates, mostSettings};
 ghost use Rattle.machine.specs.Moves.{tableMoves, Reached, Unreached, Start};
 ghost use Rattle.tables.specs.Tables.{Sized, Small, Fit, Wrong};
-use machine::{INPUTS, SETTINGS, STATES};
+use machine::INPUTS;
+use machine::SETTINGS;
+use machine::STATES;
 use verdict::Found;
 
 // The checks of single couples: refusals 4 and 10.

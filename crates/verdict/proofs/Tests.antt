@@ -1,12 +1,12 @@
 -- What tests and searches tell: a test decides a fact, a search that has seen nothing below i goes on, finds at i or ends, and each
 -- has one answer.
 use mathlib.Core.Path.{_≡_, refl, sym, ap, subst, _∙_}
-use mathlib.Core.Bool.{Bool, true, false}
+use mathlib.Core.Bool.{Bool, true, false, not}
 use Prim.Native.Nat.{ℕ, _+_, _≤_, _<_}
 use native.Mathlib.Omega.{arith}
 use native.Mathlib.Nat.{not-le-of-lt, not-suc-le-zero}
-use lib.Dec.{eqb, leb}
-use borrow.Author.Tests.{eqb-true, eqb-false, leb-true, leb-false}
+use lib.Dec.{eqb, leb, ltb}
+use borrow.Author.Tests.{not-true, not-false, eqb-true, eqb-false, leb-true, leb-false, ltb-true, ltb-false}
 use borrow.Author.Count.{below-more}
 use Rattle.verdict.specs.Checks.{Decides, Finds, at, nothing, Least, None, Unless, Within}
 use Rattle.verdict.specs.declared.Found.{Found}
@@ -24,8 +24,15 @@ it-fails n = record { holds = λ e. absurd (true≢false (sym e)); fails = λ e 
 pub decides-eqb : {P : Type 0} (a b : ℕ) → (a ≡ b → P) → (P → a ≡ b) → Decides P (eqb a b)
 decides-eqb a b f g = record { holds = λ e. f (eqb-true a b e); fails = λ e p. eqb-false a b e (g p) }
 
+pub decides-neqb : {P : Type 0} (a b : ℕ) → ((a ≡ b → ⊥) → P) → (a ≡ b → P → ⊥) → Decides P (not (eqb a b))
+decides-neqb a b f g =
+    record { holds = λ e. f (eqb-false a b (not-true _ e)); fails = λ e p. g (eqb-true a b (not-false _ e)) p }
+
 pub decides-leb : {P : Type 0} (a b : ℕ) → (a ≤ b → P) → (P → a ≤ b) → Decides P (leb a b)
 decides-leb a b f g = record { holds = λ e. f (leb-true a b e); fails = λ e p. not-le-of-lt (leb-false a b e) (g p) }
+
+pub decides-lt : {P : Type 0} (a b : ℕ) → (a < b → P) → (P → a < b) → Decides P (ltb a b)
+decides-lt a b f g = record { holds = λ e. f (ltb-true a b e); fails = λ e p. not-le-of-lt (g p) (ltb-false a b e) }
 
 pub decides-map : {P Q : Type 0} {t : Bool} → (P → Q) → (Q → P) → Decides P t → Decides Q t
 decides-map f g d = record { holds = λ e. f (d .holds e); fails = λ e q. d .fails e (g q) }
