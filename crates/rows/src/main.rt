@@ -1,0 +1,8 @@
+// The example rows of document 01 that are not starred, one line a row: a short name of the row, then its numbers.
+mod conditions;
+mod lines;
+
+fn main() {
+    conditions::unread();
+    conditions::parentheses();
+}
