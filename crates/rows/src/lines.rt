@@ -1,4 +1,4 @@
-// A line on standard output: the name of a row, then numbers, a blank before each.
+// A line on standard output: the name of a row, then numbers and words, a blank before each.
 use libc::STDOUT_FILENO;
 
 pub(crate) fn name(row: &[u8]) {
@@ -8,6 +8,11 @@ pub(crate) fn name(row: &[u8]) {
 pub(crate) fn number(n: u64) {
     io::write_all(STDOUT_FILENO, b" ");
     io::print_decimal(STDOUT_FILENO, n);
+}
+
+pub(crate) fn word(said: &[u8]) {
+    io::write_all(STDOUT_FILENO, b" ");
+    io::write_all(STDOUT_FILENO, said);
 }
 
 pub(crate) fn end() {

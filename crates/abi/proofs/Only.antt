@@ -1,0 +1,12 @@
+-- An exported update has one outcome: its answer and the log after it are the parts of what the definition fixes. Assumes nothing.
+use mathlib.Core.Path.{_≡_, sym, ap, _∙_}
+use Rattle.bench.specs.declared.Log.{Log}
+use Rattle.bench.specs.Log.{Reading, Outcome, updateOf}
+use Rattle.abi.specs.declared.Noted.{Noted}
+use Rattle.abi.specs.Answers.{outcomeOf}
+
+pub only : (before : Log) (r : Reading) (a a′ : Noted) (after after′ : Log) → outcomeOf a after ≡ updateOf before r → outcomeOf a′ after′ ≡ updateOf before r → (a ≡ a′) × (after ≡ after′)
+only before r a a′ after after′ e e′ =
+    let same = e ∙ sym e′ in
+    let answer : Outcome → Noted = λ o. record { number = o .number; place = o .place; kind = o .kind } in
+    (ap answer same, ap (λ (o : Outcome). o .log) same)

@@ -1,0 +1,8 @@
+-- What the exported answers say, in the words of the libraries' definitions.
+use Rattle.bench.specs.declared.Log.{Log}
+use Rattle.bench.specs.Log.{Outcome}
+use Rattle.abi.specs.declared.Noted.{Noted}
+
+-- an answer in numbers, and the log after it
+abbrev pub outcomeOf : Noted → Log → Outcome
+outcomeOf a l = record { number = a .number; place = a .place; kind = a .kind; log = l }
