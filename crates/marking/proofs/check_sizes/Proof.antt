@@ -1,0 +1,22 @@
+-- `check_sizes` halts at the sizes, or passes them and goes on with the room.
+use borrow.Author.Needs.{needs}
+use borrow.Author.Tests.{not-true, not-false}
+use native.Mathlib.Omega.{arith}
+use Rattle.marking.proofs.Checks.{couples-few, couples-are, unsized, sizes}
+use Rattle.marking.proofs.check_sizes.Statement.{statement}
+use Rattle.marking.proofs.check_sizes.Tie as tie
+
+returns : tie.Need-returns
+returns c = unsized (c .before .sized .ensures .fails (not-true _ (c .if1 .taken)))
+
+mul-check-room : tie.Need-mul-check-room
+mul-check-room c =
+    let z = c .before .before .sized .ensures .holds (not-false _ (c .before .if1 .left)) in
+    omega (arith, couples-are z (c .settings .ensures .0 .0), couples-few z)
+
+returns-2 : tie.Need-returns-2
+returns-2 c = sizes (c .before .before .before .sized .ensures .holds (not-false _ (c .before .before .if1 .left))) (c .before .settings .ensures .0 .0) (c .check-room .ensures)
+
+pub check-sizes-spec : {M : Type 1} → statement M
+check-sizes-spec =
+    tie.close (tie.spec (λ c κs. search needs) returns (λ c κs. search needs) mul-check-room (λ c κs. search needs) returns-2)

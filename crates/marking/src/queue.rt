@@ -1,0 +1,263 @@
+// Marking by a queue: couples enter it when they get a rank, so that those of one rank stand side by side and are expanded together.
+ghost use mathlib.Core.Path.{_≡_};
+ghost use Prim.Native.Nat.{ℕ, _+_, _*_, _^_, _≤_, _<_};
+ghost use lib.ListN.{length, getD};
+ghost use Rattle.verdict.specs.Buffers.{Filled};
+ghost use Rattle.machine.specs.Limits.{mostSettings, mostCouples, unmarked};
+ghost use Rattle.machine.specs.Flips.{flipped};
+ghost use Rattle.machine.specs.Runs.{machine, RankOrUnmarked};
+ghost use Rattle.machine.specs.Shortest.{ParentOrNone};
+ghost use Rattle.marking.specs.Queue.{Room, Pushed, ByChange, ByInputs, ByRest, ByStart, Spreads, Targets, Expands, Leveled, Ready};
+use machine::COUPLES;
+use machine::UNMARKED;
+use tables::wide;
+
+// How many inputs a machine has, and how many settings.
+struct Inputs {
+    count: usize,
+    settings: usize,
+}
+
+// What a change offers to the couples that it visits: a rank, and the couple before it as parent.
+struct Offered {
+    rank: u16,
+    parent: u16,
+}
+
+// A couple's number, as it stands in a buffer and as it is counted with.
+fn narrow(couple: usize) -> u16
+    requires { ⌜ couple < mostCouples ⌝ }
+    ensures { λ r. ⌜ r ≡ couple ⌝ }
+{
+    couple as u16
+}
+
+fn number(couple: u16) -> usize
+    ensures { λ r. ⌜ r ≡ couple ⌝ }
+{
+    couple as usize
+}
+
+// The setting with the input of this weight flipped.
+fn flip(setting: usize, weight: usize) -> usize
+    requires { ⌜ (0 < weight) × (weight ≤ mostSettings) × (setting < mostSettings) ⌝ }
+    ensures { λ r. ⌜ r ≡ flipped setting weight ⌝ }
+{
+    if setting / weight % 2 == 0 {
+        setting + weight
+    } else {
+        setting - weight
+    }
+}
+
+// A couple without a rank takes the one offered and enters the queue; of two parents of that rank the smaller one stays. Answers the
+// queue's end.
+fn push(
+    ranks: &mut [u16],
+    parents: &mut [u16],
+    queue: &mut [u16],
+    tail: usize,
+    couple: usize,
+    offer: Offered,
+) -> usize
+    requires { ⌜ Room (now ranks) (now parents) (now queue) tail × (couple < length (now ranks)) × (offer .rank < unmarked) ⌝ }
+    ensures { λ end. ⌜ Pushed (λ (d : ℕ). d ≡ couple) (offer .rank) (offer .parent) (now (ranks .entry)) (now (parents .entry)) (now (queue .entry)) tail (now (ranks .exit)) (now (parents .exit)) (now (queue .exit)) end ⌝ }
+{
+    if ranks[couple] == UNMARKED {
+        ranks[couple] = offer.rank;
+        parents[couple] = offer.parent;
+        queue[tail] = narrow(couple);
+        return tail + 1;
+    }
+    if ranks[couple] == offer.rank {
+        if offer.parent < parents[couple] {
+            parents[couple] = offer.parent;
+            return tail;
+        }
+    }
+    tail
+}
+
+// In a state, a change to a setting: both couples that it visits.
+fn change(
+    table: &[u8],
+    ranks: &mut [u16],
+    parents: &mut [u16],
+    queue: &mut [u16],
+    tail: usize,
+    inputs: Inputs,
+    state: usize,
+    setting: usize,
+    offer: Offered,
+) -> usize
+    requires { ⌜ Room (now ranks) (now parents) (now queue) tail × Targets (now table) (now ranks) (inputs .settings) state setting × (offer .rank < unmarked) ⌝ }
+    ensures { λ end. ⌜ Pushed (ByChange (now (table .entry)) (inputs .settings) state setting) (offer .rank) (offer .parent) (now (ranks .entry)) (now (parents .entry)) (now (queue .entry)) tail (now (ranks .exit)) (now (parents .exit)) (now (queue .exit)) end ⌝ }
+{
+    let couple = state * inputs.settings + setting;
+    let moved = wide(table[couple]) * inputs.settings + setting;
+    let between = push(ranks, parents, queue, tail, couple, offer);
+    push(ranks, parents, queue, between, moved, offer)
+}
+
+// From a couple, a change of each input.
+fn expand(
+    table: &[u8],
+    ranks: &mut [u16],
+    parents: &mut [u16],
+    queue: &mut [u16],
+    tail: usize,
+    inputs: Inputs,
+    couple: usize,
+    rank: u16,
+) -> usize
+    requires { ⌜ Expands (now table) (now ranks) (now parents) (now queue) (inputs .settings) (inputs .count) tail couple rank ⌝ }
+    ensures { λ end. ⌜ Pushed (ByInputs (now (table .entry)) (inputs .settings) couple (inputs .count)) rank couple (now (ranks .entry)) (now (parents .entry)) (now (queue .entry)) tail (now (ranks .exit)) (now (parents .exit)) (now (queue .exit)) end ⌝ }
+{
+    let state = couple / inputs.settings;
+    let setting = couple % inputs.settings;
+    let offer = Offered {
+        rank: rank,
+        parent: narrow(couple),
+    };
+    let mut end = tail;
+    let mut weight: usize = 1;
+    let mut i: usize = 0;
+    while i < inputs.count {
+        let to = flip(setting, weight);
+        end = change(table, ranks, parents, queue, end, inputs, state, to, offer);
+        weight = weight * 2;
+        i += 1;
+    }
+    end
+}
+
+// A couple of the queue, expanded where it is at rest.
+fn take(
+    table: &[u8],
+    ranks: &mut [u16],
+    parents: &mut [u16],
+    queue: &mut [u16],
+    tail: usize,
+    inputs: Inputs,
+    couple: usize,
+    rank: u16,
+) -> usize
+    requires { ⌜ Expands (now table) (now ranks) (now parents) (now queue) (inputs .settings) (inputs .count) tail couple rank ⌝ }
+    ensures { λ end. ⌜ Pushed (ByRest (now (table .entry)) (inputs .settings) (inputs .count) couple) rank couple (now (ranks .entry)) (now (parents .entry)) (now (queue .entry)) tail (now (ranks .exit)) (now (parents .exit)) (now (queue .exit)) end ⌝ }
+{
+    if wide(table[couple]) == couple / inputs.settings {
+        return expand(table, ranks, parents, queue, tail, inputs, couple, rank);
+    }
+    tail
+}
+
+// The couples of one rank, which stand in the queue from `from` on and before `to`.
+fn level(
+    table: &[u8],
+    ranks: &mut [u16],
+    parents: &mut [u16],
+    queue: &mut [u16],
+    from: usize,
+    to: usize,
+    inputs: Inputs,
+    rank: u16,
+) -> usize
+    requires { ⌜ Leveled (now table) (now ranks) (now parents) (now queue) (inputs .settings) (inputs .count) rank from to ⌝ }
+    ensures { λ end. ⌜ Spreads (ByRest (now (table .entry)) (inputs .settings) (inputs .count)) rank from to to (now (ranks .entry)) (now (parents .entry)) (now (queue .entry)) (now (ranks .exit)) (now (parents .exit)) (now (queue .exit)) end ⌝ }
+{
+    let mut tail = to;
+    let mut head = from;
+    while head < to {
+        let couple = number(queue[head]);
+        tail = take(table, ranks, parents, queue, tail, inputs, couple, rank + 1);
+        head += 1;
+    }
+    tail
+}
+
+// A couple of the initial state: where it is at rest, a run may start there.
+fn give_start(
+    table: &[u8],
+    ranks: &mut [u16],
+    parents: &mut [u16],
+    queue: &mut [u16],
+    tail: usize,
+    couple: usize,
+    initial: usize,
+) -> usize
+    requires { ⌜ Room (now ranks) (now parents) (now queue) tail × (couple < length (now table)) × (couple < length (now ranks)) ⌝ }
+    ensures { λ end. ⌜ Pushed (λ (d : ℕ). (getD (now (table .entry)) couple 0 ≡ initial) × (d ≡ couple)) 0 0 (now (ranks .entry)) (now (parents .entry)) (now (queue .entry)) tail (now (ranks .exit)) (now (parents .exit)) (now (queue .exit)) end ⌝ }
+{
+    if wide(table[couple]) == initial {
+        let offer = Offered { rank: 0, parent: 0 };
+        return push(ranks, parents, queue, tail, couple, offer);
+    }
+    tail
+}
+
+fn give_starts(
+    table: &[u8],
+    ranks: &mut [u16],
+    parents: &mut [u16],
+    queue: &mut [u16],
+    settings: usize,
+    initial: usize,
+) -> usize
+    requires { ⌜ Room (now ranks) (now parents) (now queue) 0 × (initial * settings + settings ≤ length (now table)) × (initial * settings + settings ≤ length (now ranks)) ⌝ }
+    ensures { λ end. ⌜ Pushed (ByStart (now (table .entry)) settings initial settings) 0 0 (now (ranks .entry)) (now (parents .entry)) (now (queue .entry)) 0 (now (ranks .exit)) (now (parents .exit)) (now (queue .exit)) end ⌝ }
+{
+    let row = initial * settings;
+    let mut tail: usize = 0;
+    let mut v: usize = 0;
+    while v < settings {
+        tail = give_start(table, ranks, parents, queue, tail, row + v, initial);
+        v += 1;
+    }
+    tail
+}
+
+// The starts, then the levels one after the other, until one is empty.
+fn levels(
+    inputs: Inputs,
+    states: usize,
+    initial: usize,
+    table: &[u8],
+    ranks: &mut [u16],
+    parents: &mut [u16],
+    queue: &mut [u16],
+)
+    requires { ⌜ Ready (machine (inputs .count) states initial (now table)) (now ranks) (now parents) × (inputs .settings ≡ 2 ^ (inputs .count)) × (length (now ranks) ≤ length (now queue)) ⌝ }
+    ensures ranks { λ _. ⌜ Filled (states * 2 ^ (inputs .count)) (RankOrUnmarked (machine (inputs .count) states initial (now (table .entry)))) (now (ranks .entry)) (now (ranks .exit)) ⌝ }
+    ensures parents { λ _. ⌜ Filled (states * 2 ^ (inputs .count)) (ParentOrNone (machine (inputs .count) states initial (now (table .entry)))) (now (parents .entry)) (now (parents .exit)) ⌝ }
+{
+    let mut tail = give_starts(table, ranks, parents, queue, inputs.settings, initial);
+    let mut from: usize = 0;
+    let mut rank: u16 = 0;
+    while from < tail {
+        let to = tail;
+        tail = level(table, ranks, parents, queue, from, to, inputs, rank);
+        from = to;
+        rank += 1;
+    }
+}
+
+// The ranks and parents of a sound machine, in blank buffers of as many elements as there are couples.
+pub(crate) fn fill(
+    inputs: usize,
+    states: usize,
+    initial: usize,
+    table: &[u8],
+    ranks: &mut [u16],
+    parents: &mut [u16],
+)
+    requires { ⌜ Ready (machine inputs states initial (now table)) (now ranks) (now parents) ⌝ }
+    ensures ranks { λ _. ⌜ Filled (states * 2 ^ inputs) (RankOrUnmarked (machine inputs states initial (now (table .entry)))) (now (ranks .entry)) (now (ranks .exit)) ⌝ }
+    ensures parents { λ _. ⌜ Filled (states * 2 ^ inputs) (ParentOrNone (machine inputs states initial (now (table .entry)))) (now (parents .entry)) (now (parents .exit)) ⌝ }
+{
+    let all = Inputs {
+        count: inputs,
+        settings: tables::settings(inputs),
+    };
+    let mut queue = [0u16; COUPLES];
+    levels(all, states, initial, table, ranks, parents, &mut queue);
+}
