@@ -1,4 +1,5 @@
 pub mod Order
+pub mod Members
 pub mod Soundness
 pub mod Same
 pub mod Inputs

@@ -16,23 +16,12 @@ use Rattle.machine.specs.Model.{followed, among, visited, planned, planO
 use Rattle.machine.specs.Boards.{Board, readings, specified, Differ, Alike}
 use Rattle.machine.specs.Plans.{VisitedBy, Plan}
 use Rattle.machine.specs.Plans.Plan.{empty, pass, add}
+use Rattle.machine.proofs.Members.{in-front, in-back, in-either}
 use Rattle.machine.proofs.Order.{equal-or}
 use Rattle.machine.proofs.Tests.{Told, told-by, told-equal, told-either}
 use Rattle.machine.proofs.Shortest.{run-to-unique, followed-run}
 use Rattle.machine.proofs.Exists.{marked-below}
 use Rattle.machine.proofs.Readings.{board-theorem}
-
-in-front : {A : Type 0} (x : A) (xs ys : List A) → In x xs → In x (xs ++ ys)
-in-front x [] ys i = absurd i
-in-front x (y ∷ xs) ys i = ⊎-elim inl (λ j. inr (in-front x xs ys j)) i
-
-at-end : {A : Type 0} (x : A) (xs : List A) → In x (xs ++ (x ∷ []))
-at-end x [] = inl refl
-at-end x (y ∷ xs) = inr (at-end x xs)
-
-from-both : {A : Type 0} (x : A) (xs : List A) (y : A) → In x (xs ++ (y ∷ [])) → In x xs ⊎ (x ≡ y)
-from-both x [] y i = ⊎-elim inr absurd i
-from-both x (z ∷ xs) y i = ⊎-elim (λ e. inl (inl e)) (λ j. ⊎-elim (λ k. inl (inr k)) inr (from-both x xs y j)) i
 
 longer : (m : Machine) (c : ℕ) (plan : List (List ℕ)) (ws : List ℕ) → VisitedBy m c plan → VisitedBy m c (plan ++ (ws ∷ []))
 longer m c plan ws (vs, i, j) = (vs, in-front vs plan (ws ∷ []) i, j)
@@ -50,7 +39,7 @@ module _ {m : Machine} (ok : Sound m) where
 pub plan-runs : {m : Machine} {t : ℕ} {p : List (List ℕ)} → Plan m t p → (vs : List ℕ) → In vs p → Run m vs
 plan-runs empty vs i = absurd i
 plan-runs (pass x f) vs i = plan-runs x vs i
-plan-runs {m} (add {plan = plan} {vs = ws} x n r) vs i = ⊎-elim (λ j. plan-runs x vs j) (λ e. subst (Run m) (sym e) (r .visitor .run)) (from-both vs plan ws i)
+plan-runs {m} (add {plan = plan} {vs = ws} x n r) vs i = ⊎-elim (λ j. plan-runs x vs j) (⊎-elim (λ e. subst (Run m) (sym e) (r .visitor .run)) absurd) (in-either vs plan (ws ∷ []) i)
 
 -- each marked couple below t is visited
 pub plan-visits : {m : Machine} {t : ℕ} {p : List (List ℕ)} → Plan m t p → (c : ℕ) → c < t → Marked m c → VisitedBy m c p
@@ -60,7 +49,7 @@ plan-visits {m} (pass {c = d} {plan = plan} y f) c l x = ⊎-elim
     (λ (e : c ≡ d → ⊥). plan-visits y c (omega arith) x)
     (equal-or c d)
 plan-visits {m} (add {c = d} {plan = plan} {vs = vs} y n r) c l x = ⊎-elim
-    (λ e. (vs, at-end vs plan, subst (λ (k : ℕ). In k (visits m vs)) (sym e) (r .visitor .sees)))
+    (λ e. (vs, in-back vs plan (vs ∷ []) (inl refl), subst (λ (k : ℕ). In k (visits m vs)) (sym e) (r .visitor .sees)))
     (λ (e : c ≡ d → ⊥). longer m c plan vs (plan-visits y c (omega arith) x))
     (equal-or c d)
 

@@ -15,13 +15,6 @@ same-answer a b n p = ap₂ (λ (m q : ℕ). record { number = m; place = q }) n
 pub passed-unique : (a b : Answer) → Passed a → Passed b → a ≡ b
 passed-unique a b p q = same-answer a b (p .number ∙ sym (q .number)) (p .place ∙ sym (q .place))
 
-pub verdict-unique : (cs : List Check) (done : Answer → Type 0) (only : (a b : Answer) → done a → done b → a ≡ b) (a b : Answer) → Verdict cs done a → Verdict cs done b → a ≡ b
-verdict-unique [] done only a b v w = only a b v w
-verdict-unique (c ∷ cs) done only a b (refused l n) (refused m o) = same-answer a b (n ∙ sym o) (least-unique l m)
-verdict-unique (c ∷ cs) done only a b (refused l n) (next m w) = absurd (m .nowhere (a .place) (l .here))
-verdict-unique (c ∷ cs) done only a b (next n v) (refused l m) = absurd (n .nowhere (b .place) (l .here))
-verdict-unique (c ∷ cs) done only a b (next n v) (next m w) = verdict-unique cs done only a b v w
-
 -- each number is between two bounds; no check fails
 abbrev pub Numbered : ℕ → ℕ → List Check → Type 0
 Numbered low high [] = Unit {0}
@@ -30,6 +23,18 @@ Numbered low high (c ∷ cs) = (low ≤ c .number) × (c .number ≤ high) × Nu
 abbrev pub Passes : List Check → Type 0
 Passes [] = Unit {0}
 Passes (c ∷ cs) = None (c .fails) × Passes cs
+
+pub passes-front : (cs ds : List Check) → Passes (cs ++ ds) → Passes cs
+passes-front [] ds p = tt
+passes-front (c ∷ cs) ds p = (p .0, passes-front cs ds (p .1))
+
+-- one answer, where success has one once no check fails
+pub verdict-unique : (cs : List Check) (done : Answer → Type 0) (only : Passes cs → (a b : Answer) → done a → done b → a ≡ b) (a b : Answer) → Verdict cs done a → Verdict cs done b → a ≡ b
+verdict-unique [] done only a b v w = only tt a b v w
+verdict-unique (c ∷ cs) done only a b (refused l n) (refused m o) = same-answer a b (n ∙ sym o) (least-unique l m)
+verdict-unique (c ∷ cs) done only a b (refused l n) (next m w) = absurd (m .nowhere (a .place) (l .here))
+verdict-unique (c ∷ cs) done only a b (next n v) (refused l m) = absurd (n .nowhere (b .place) (l .here))
+verdict-unique (c ∷ cs) done only a b (next n v) (next m w) = verdict-unique cs done (λ p. only (n, p)) a b v w
 
 module _ (done : Answer → Type 0) where
   on : (cs ds : List Check) (high : ℕ) (a b : Answer) → Numbered 1 high cs → Verdict cs Passed a → a .number ≡ 0 → Verdict ds done b → Verdict (cs ++ ds) done b
@@ -50,14 +55,23 @@ judged-on {cs} {ds} {done} {a} {b} high v num e w = record { verdict = on done c
 pub judged-stop : {cs : List Check} (ds : List Check) {done : Answer → Type 0} {a : Answer} → Judged cs Passed a → (a .number ≡ 0 → ⊥) → Judged (cs ++ ds) done a
 judged-stop {cs} ds {done} {a} v e = record { verdict = stop done cs ds a (v .verdict) e }
 
-passes : (cs : List Check) (high : ℕ) (a : Answer) → Numbered 1 high cs → Verdict cs Passed a → a .number ≡ 0 → Passes cs
-passes [] high a num v e = tt
-passes (c ∷ cs) high a num (refused l n) e = absurd (omega (arith, num .0))
-passes (c ∷ cs) high a num (next n v) e = (n, passes cs high a (num .2) v e)
+passes : (cs : List Check) (done : Answer → Type 0) (high : ℕ) (a : Answer) → Numbered 1 high cs → Verdict cs done a → a .number ≡ 0 → Passes cs
+passes [] done high a num v e = tt
+passes (c ∷ cs) done high a num (refused l n) e = absurd (omega (arith, num .0))
+passes (c ∷ cs) done high a num (next n v) e = (n, passes cs done high a (num .2) v e)
 
 -- one that did not refuse: no check fails
-pub judged-passes : {cs : List Check} {a : Answer} (high : ℕ) → Judged cs Passed a → Numbered 1 high cs → a .number ≡ 0 → Passes cs
-judged-passes {cs} {a} high v num e = passes cs high a num (v .verdict) e
+pub judged-passes : {cs : List Check} {done : Answer → Type 0} {a : Answer} (high : ℕ) → Judged cs done a → Numbered 1 high cs → a .number ≡ 0 → Passes cs
+judged-passes {cs} {done} {a} high v num e = passes cs done high a num (v .verdict) e
+
+reaches : (cs : List Check) (done : Answer → Type 0) (high : ℕ) (a : Answer) → Numbered 1 high cs → Verdict cs done a → a .number ≡ 0 → done a
+reaches [] done high a num v e = v
+reaches (c ∷ cs) done high a num (refused l n) e = absurd (omega (arith, num .0))
+reaches (c ∷ cs) done high a num (next n v) e = reaches cs done high a (num .2) v e
+
+-- and it ended in success
+pub judged-done : {cs : List Check} {done : Answer → Type 0} {a : Answer} (high : ℕ) → Judged cs done a → Numbered 1 high cs → a .number ≡ 0 → done a
+judged-done {cs} {done} {a} high v num e = reaches cs done high a num (v .verdict) e
 
 number : (cs : List Check) (low high : ℕ) (a : Answer) → Numbered low high cs → Verdict cs Passed a → (a .number ≡ 0 → ⊥) → (low ≤ a .number) × (a .number ≤ high)
 number [] low high a num v e = absurd (e (v .number))
@@ -79,8 +93,11 @@ pub ends : Judged [] Passed (record { number = 0; place = 0 })
 ends = record { verdict = record { number = refl; place = refl } }
 
 -- one answer, where success has one
+pub judged-once : {cs : List Check} {done : Answer → Type 0} {a b : Answer} → (Passes cs → (a b : Answer) → done a → done b → a ≡ b) → Judged cs done a → Judged cs done b → a ≡ b
+judged-once {cs} {done} {a} {b} one v w = verdict-unique cs done one a b (v .verdict) (w .verdict)
+
 pub judged-only : {cs : List Check} {done : Answer → Type 0} {a b : Answer} → ((a b : Answer) → done a → done b → a ≡ b) → Judged cs done a → Judged cs done b → a ≡ b
-judged-only {cs} {done} {a} {b} one v w = verdict-unique cs done one a b (v .verdict) (w .verdict)
+judged-only one v w = judged-once (λ _. one) v w
 
 pub judged-unique : {cs : List Check} {a b : Answer} → Judged cs Passed a → Judged cs Passed b → a ≡ b
 judged-unique v w = judged-only passed-unique v w

@@ -1,0 +1,84 @@
+-- The settings along a chain of parents, and the stored runs made of them: each law goes one couple back along the chain, or one
+-- couple up in the plan.
+use mathlib.Core.Path.{_≡_, refl, ap}
+use mathlib.Core.Logic.{⊎-elim}
+use mathlib.Core.List.{List, [], _∷_, _++_, append-assoc}
+use mathlib.Core.Bool.{Bool, true, false}
+use Prim.Native.Nat.{ℕ, zero, suc, _+_, _/_, _%_, _≤_, _<_}
+use native.Mathlib.Numerals.{add-one}
+use native.Mathlib.Nat.{mod-lt, eq-or-lt-of-le}
+use native.Mathlib.Omega.{arith}
+use lib.ListN.{length, getD, set, drop, length-append}
+use Rattle.machine.specs.Limits.{mostSettings}
+use Rattle.machine.specs.Plans.{storedRun}
+use Rattle.machine.specs.Model.{followed}
+use Rattle.plan.specs.Writing.{settings, piece, pieces, Within}
+use Rattle.plan.proofs.Fronts.{drop-set-here}
+
+-- what stands behind the settings stays there
+followed-front : (size : ℕ) (parent : ℕ → ℕ) (k c : ℕ) (vs ws : List ℕ) → followed size parent k c (vs ++ ws) ≡ followed size parent k c vs ++ ws
+followed-front size parent zero c vs ws = refl
+followed-front size parent (suc k) c vs ws = followed-front size parent k (parent c) (c % size ∷ vs) ws
+
+module _ (P : List ℕ) (z : ℕ) where
+  pub settings-none : (c : ℕ) → settings P z c 0 ≡ []
+  unfolding settings
+  settings-none c = refl
+
+  -- one couple more, at the end
+  pub settings-more : (c n : ℕ) → settings P z c (suc n) ≡ settings P z (getD P c 0) n ++ (c % z ∷ [])
+  unfolding settings
+  settings-more c n = followed-front z (λ d. getD P d 0) n (getD P c 0) [] (c % z ∷ [])
+
+  pub length-settings : (n c : ℕ) → length (settings P z c n) ≡ n
+  length-settings zero c = rw (settings-none c) refl
+  length-settings (suc n) c = rw (settings-more c n, length-append, length-settings n (getD P c 0)) (add-one n)
+
+  -- one setting written, one fewer is left
+  pub settings-back : (c m n : ℕ) (l : List ℕ) → n ≡ m + 1 → m < length l
+      → settings P z (getD P c 0) m ++ drop m (set l m (c % z)) ≡ settings P z c n ++ drop n l
+  settings-back c m n l e h =
+      rw (e, add-one m, settings-more, append-assoc) (ap (λ (t : List ℕ). settings P z (getD P c 0) m ++ t) (drop-set-here l m (c % z) h))
+
+pub parent-within : {P : List ℕ} {z c : ℕ} (w : Within P z c) → Within P z (getD P c 0)
+parent-within {P} {z} {c} w = record { total = w .total; tree = w .tree; below = w .tree .parent c (w .below) }
+
+pub setting-small : {P : List ℕ} {z c : ℕ} (w : Within P z c) → (d : ℕ) → d % z < mostSettings
+setting-small {P} {z} w d = omega (arith, mod-lt d (w .tree .some), w .tree .small)
+
+-- the stored run to a couple of rank r
+module _ (P : List ℕ) (z c r : ℕ) where
+  pub length-stored : length (storedRun (settings P z c (r + 1))) ≡ r + 3
+  length-stored = rw (length-settings P z (r + 1) c) (omega arith)
+
+  -- its count bytes
+  pub count-bytes : storedRun (settings P z c (r + 1)) ≡ ((r + 1) % 256 ∷ (r + 1) / 256 ∷ []) ++ settings P z c (r + 1)
+  count-bytes = rw (length-settings P z (r + 1) c) refl
+
+-- the stored runs of chosen couples
+module _ (P R : List ℕ) (z : ℕ) (C : List Bool) where
+  pub piece-chosen : (c : ℕ) → getD C c false ≡ true → piece P R z C c ≡ storedRun (settings P z c (getD R c 0 + 1))
+  unfolding piece
+  piece-chosen c e = rw e refl
+
+  pub piece-left : (c : ℕ) → getD C c false ≡ false → piece P R z C c ≡ []
+  unfolding piece
+  piece-left c e = rw e refl
+
+  pub pieces-none : pieces P R z C 0 ≡ []
+  unfolding pieces
+  pieces-none = refl
+
+  pub pieces-more : (c : ℕ) → pieces P R z C (c + 1) ≡ pieces P R z C c ++ piece P R z C c
+  unfolding pieces
+  pieces-more c = rw (add-one c)
+
+  -- those of the first c couples and of the next are no longer than all
+  pub pieces-fit : (t c : ℕ) → c < t → length (pieces P R z C c) + length (piece P R z C c) ≤ length (pieces P R z C t)
+  unfolding pieces
+  pieces-fit zero c h = absurd (omega arith)
+  pieces-fit (suc t) c h =
+      rw length-append (⊎-elim
+      (λ (e : c ≡ t). rw e (omega arith))
+      (λ (l : c < t). omega (arith, pieces-fit t c l))
+      (eq-or-lt-of-le (omega arith)))

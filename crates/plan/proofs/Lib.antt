@@ -1,0 +1,10 @@
+pub mod Fronts
+pub mod Chains
+pub mod Turns
+pub mod Flags
+pub mod Visits
+pub mod Noted
+pub mod Marked
+pub mod Outcomes
+pub mod Once
+pub mod Held

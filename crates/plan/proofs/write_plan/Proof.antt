@@ -1,0 +1,81 @@
+-- The invariant: the pieces of the first c couples stand at the front; each next one is written into the rest.
+use mathlib.Core.Path.{_≡_, refl}
+use Prim.Native.Nat.{_-_, _≤_}
+use native.Mathlib.Omega.{arith}
+use lib.ListN.{length}
+use Rattle.plan.specs.Writing.{piece, pieces, Put}
+use Rattle.plan.proofs.Fronts.{rest-lent, put-front, put-none, put-reach, put-more}
+use Rattle.plan.proofs.Chains.{pieces-fit, pieces-more, pieces-none}
+use Rattle.plan.proofs.write_plan.Statement.{statement}
+use Rattle.plan.proofs.write_plan.Tie as tie
+
+abbrev Inv-loop : tie.InvT-loop
+Inv-loop parents ranks chosen size couples plan₀ at₀ c₀ plan at c = (c ≤ couples) × (length plan ≡ length plan₀) × Put (pieces parents ranks size chosen c) at plan₀ plan
+
+abbrev μ-loop : tie.MeasureT-loop
+μ-loop parents ranks chosen size couples plan₀ at₀ c₀ plan at c = couples - c
+
+loop-holds : tie.Need-loop-holds Inv-loop μ-loop
+loop-holds c =
+    let a = c .before .before .before .before .args in
+    (omega arith, refl, rw (pieces-none (a .parents .now) (a .ranks .now) (a .size) (a .chosen .now)) put-none)
+
+sub-store-chosen : tie.Need-sub-store-chosen Inv-loop μ-loop
+sub-store-chosen c = put-reach (c .before .loop .inv .2)
+
+part-store-chosen-start : tie.Need-part-store-chosen-start Inv-loop μ-loop
+part-store-chosen-start c = put-reach (c .before .loop .inv .2)
+
+store-chosen-requires : tie.Need-store-chosen-requires Inv-loop μ-loop
+store-chosen-requires c κs =
+    let a = c .before .before .before .before .before .before .before .args in
+    let p = c .before .before .before .before .before .before .before .pre in
+    let l = c .before .before .loop in
+    let h = c .before .loop-test .taken in
+    let fit = pieces-fit (a .parents .now) (a .ranks .now) (a .size) (a .chosen .now) (a .couples) (l .c) h in (
+      record { total = a .couples; tree = p .0; below = h },
+      (
+        omega (arith, p .1 .0 .ranks-long, p .1 .0 .flags-long),
+        (p .1 .0 .marked (l .c) h, rw (rest-lent (l .plan) (l .at)) (omega (arith, fit, l .inv .2 .count, p .1 .1))),
+      ),
+    )
+
+add-at : tie.Need-add-at Inv-loop μ-loop
+add-at c =
+    let a = c .before .before .before .before .before .before .before .before .before .before .args in
+    let l = c .before .before .before .before .before .loop in
+    let fit = pieces-fit (a .parents .now) (a .ranks .now) (a .size) (a .chosen .now) (a .couples) (l .c) (c .before .before .before .before .loop-test .taken) in
+    omega (arith, fit, l .inv .2 .count, c .before .before .store-chosen .ensures .count, c .before .before .before .before .before .before .before .before .before .before .pre .1 .1)
+
+loop-again : tie.Need-loop-again Inv-loop μ-loop
+loop-again c =
+    let a = c .before .before .before .before .before .before .before .before .before .before .args in
+    let l = c .before .before .before .before .before .loop in (
+      omega arith,
+      omega arith,
+      rw (pieces-more (a .parents .now) (a .ranks .now) (a .size) (a .chosen .now) (l .c))
+          (put-more {x = piece (a .parents .now) (a .ranks .now) (a .size) (a .chosen .now) (l .c)} (l .inv .2) (c .before .before .store-chosen .ensures)),
+    )
+
+returns : tie.Need-returns Inv-loop μ-loop
+returns c =
+    let e : c .before .loop .c ≡ c .before .before .before .before .before .before .args .couples = omega arith in
+    put-front (rw e at (c .before .loop .inv .2))
+
+pub write-plan-spec : {M : Type 1} → statement M
+write-plan-spec =
+    tie.close
+    (tie.spec
+    Inv-loop
+    μ-loop
+    loop-holds
+    sub-store-chosen
+    part-store-chosen-start
+    (λ c. omega arith)
+    store-chosen-requires
+    add-at
+    (λ c. omega arith)
+    (λ c. omega arith)
+    loop-again
+    (λ c. c .before .loop .inv .1)
+    returns)

@@ -1,0 +1,27 @@
+-- Document 01's sheet of the lamp, and the line of a refusal, computed from the definitions. Assumes nothing.
+use mathlib.Core.Path.{_≡_, refl}
+use mathlib.Core.List.{List, [], _∷_, _++_}
+use Prim.Native.Nat.{ℕ}
+use Rattle.show.specs.Digits.{digitsUpTo, digits}
+use Rattle.show.specs.Sheet.{letters, firstLine, sheetText, refusalText}
+
+abbrev pub lampRanks : List ℕ
+lampRanks = 0 ∷ 1 ∷ 2 ∷ 1 ∷ []
+
+abbrev pub lampPlan : List ℕ
+lampPlan = 1 ∷ 0 ∷ 0 ∷ 2 ∷ 0 ∷ 0 ∷ 1 ∷ 3 ∷ 0 ∷ 0 ∷ 1 ∷ 0 ∷ []
+
+pub lamp-sheet : sheetText 1 2 lampRanks lampPlan
+    ≡ letters "INPUTS 1 STATES 2 COUPLES 4 MARKED 4\n"
+    ++ letters "RANK 0 1\n"
+    ++ letters "RANK 1 2\n"
+    ++ letters "RANK 2 1\n"
+    ++ letters "RUN 1 0\n"
+    ++ letters "RUN 2 0 1\n"
+    ++ letters "RUN 3 0 1 0\n"
+unfolding digitsUpTo digits firstLine
+lamp-sheet = refl
+
+pub plan-refused : refusalText 16 65540 ≡ letters "REFUSED 16 65540\n"
+unfolding digitsUpTo digits
+plan-refused = refl

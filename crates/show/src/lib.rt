@@ -1,0 +1,258 @@
+// The lines of the sheet, and the line of a refusal, as bytes in a lent buffer.
+//
+// A text is written piece by piece: each function takes what is written so far and answers what is written then. Where the buffer
+// ends, the front of the text stands in it and the rest is left out.
+ghost use mathlib.Core.Path.{_≡_};
+ghost use mathlib.Core.List.{List, _∷_, [], _++_, map};
+ghost use Prim.Native.Nat.{ℕ, _+_, _*_, _≤_, _<_};
+ghost use lib.ListN.{length, getD};
+ghost use Rattle.show.specs.Digits.{digits};
+ghost use Rattle.show.specs.Sheet.{letters, line, fieldsBehind, firstLine, rankLine, rankLines, runLine, runLines, ranksIn, sheetText, refusalText};
+ghost use Rattle.show.specs.Written.{Writes};
+ghost use Rattle.show.specs.Steps.{Adds, values, Counted, raised, NextRun};
+ghost use Rattle.machine.specs.Plans.{runsIn};
+use machine::UNMARKED;
+
+// The values that a rank has.
+const VALUES: usize = UNMARKED as usize + 1;
+
+// All bytes of a text stand at the front of the buffer, so many; or the buffer is short.
+pub enum Written {
+    All(usize),
+    Short,
+}
+
+// Writes the sheet over the front of out, from the ranks of all couples and the bytes of the stored plan.
+pub fn sheet(inputs: usize, states: usize, ranks: &[u16], plan: &[u8], out: &mut [u8]) -> Written
+    ensures { λ r. ⌜ Writes (sheetText inputs states (now (ranks .entry)) (now (plan .entry))) r (now (out .entry)) (now (out .exit)) ⌝ }
+{
+    let counts = counts_of(ranks);
+    let unmarked = long(UNMARKED);
+    let marked = ranks.len() - counts[unmarked];
+    let of_head = first_line(inputs, states, ranks.len(), marked, Written::All(0), out);
+    let of_ranks = rank_lines(ranks_in(ranks), &counts, of_head, out);
+    run_lines(plan, of_ranks, out)
+}
+
+// Writes the line of a refusal over the front of out.
+pub fn refusal(number: usize, place: usize, out: &mut [u8]) -> Written
+    ensures { λ r. ⌜ Writes (refusalText number place) r (now (out .entry)) (now (out .exit)) ⌝ }
+{
+    line_of_two(b"REFUSED", number, place, Written::All(0), out)
+}
+
+// How many couples have each rank.
+fn counts_of(ranks: &[u16]) -> [usize; VALUES]
+    ensures { λ r. ⌜ Counted values (now (ranks .entry)) r ⌝ }
+{
+    let mut counts = [0usize; VALUES];
+    let mut c = ranks.len();
+    while 0 < c {
+        c -= 1;
+        let rank = long(ranks[c]);
+        counts[rank] += 1;
+    }
+    counts
+}
+
+// How many ranks there are from 0 to the highest of a marked couple.
+fn ranks_in(ranks: &[u16]) -> usize
+    ensures { λ r. ⌜ (r ≡ ranksIn (now (ranks .entry))) × (r < values) ⌝ }
+{
+    let mut levels: usize = 0;
+    let mut c = ranks.len();
+    while 0 < c {
+        c -= 1;
+        levels = higher(levels, ranks[c]);
+    }
+    levels
+}
+
+// Writes inputs, states, couples and the number of marked couples.
+fn first_line(
+    inputs: usize,
+    states: usize,
+    couples: usize,
+    marked: usize,
+    done: Written,
+    out: &mut [u8],
+) -> Written
+    ensures { λ r. ⌜ Adds (firstLine inputs states couples marked) done r (now (out .entry)) (now (out .exit)) ⌝ }
+{
+    let of_inputs = named(b"INPUTS", inputs, done, out);
+    let of_states = named(b" STATES", states, of_inputs, out);
+    let of_couples = named(b" COUPLES", couples, of_states, out);
+    let of_marked = named(b" MARKED", marked, of_couples, out);
+    byte(b'\n', of_marked, out)
+}
+
+// Writes a line for each rank below levels.
+fn rank_lines(levels: usize, counts: &[usize], done: Written, out: &mut [u8]) -> Written
+    requires { ⌜ levels ≤ length (now counts) ⌝ }
+    ensures { λ r. ⌜ Adds (rankLines (λ k. getD (now (counts .entry)) k 0) levels) done r (now (out .entry)) (now (out .exit)) ⌝ }
+{
+    let mut written = done;
+    let mut rank: usize = 0;
+    while rank < levels {
+        written = rank_line(rank, counts[rank], written, out);
+        rank += 1;
+    }
+    written
+}
+
+// Writes a rank and its count of couples.
+fn rank_line(rank: usize, count: usize, done: Written, out: &mut [u8]) -> Written
+    ensures { λ r. ⌜ Adds (rankLine rank count) done r (now (out .entry)) (now (out .exit)) ⌝ }
+{
+    line_of_two(b"RANK", rank, count, done, out)
+}
+
+// Writes a line for each run of a stored plan.
+fn run_lines(plan: &[u8], done: Written, out: &mut [u8]) -> Written
+    ensures { λ r. ⌜ Adds (runLines 1 (runsIn (now (plan .entry)))) done r (now (out .entry)) (now (out .exit)) ⌝ }
+{
+    let mut written = done;
+    let mut number: usize = 1;
+    let mut at: usize = 0;
+    while 2 <= plan.len() - at {
+        let from = at + 2;
+        let end = run_end(plan, at);
+        written = run_line(number, &plan[from..end], written, out);
+        number += 1;
+        at = end;
+    }
+    written
+}
+
+// Where the run whose count stands at a place ends, at the latest with the plan.
+fn run_end(plan: &[u8], at: usize) -> usize
+    requires { ⌜ at + 2 ≤ length (now plan) ⌝ }
+    ensures { λ r. ⌜ NextRun (now (plan .entry)) at r ⌝ }
+{
+    let settings = wide(plan[at + 1]) * 256 + wide(plan[at]);
+    let rest = plan.len() - (at + 2);
+    if rest < settings {
+        return plan.len();
+    }
+    at + 2 + settings
+}
+
+// Writes a run's number and its settings.
+fn run_line(number: usize, settings: &[u8], done: Written, out: &mut [u8]) -> Written
+    ensures { λ r. ⌜ Adds (runLine number (now (settings .entry))) done r (now (out .entry)) (now (out .exit)) ⌝ }
+{
+    let of_number = named(b"RUN", number, done, out);
+    fields(settings, of_number, out)
+}
+
+// Writes each setting behind a blank, and ends the line.
+fn fields(settings: &[u8], done: Written, out: &mut [u8]) -> Written
+    ensures { λ r. ⌜ Adds (fieldsBehind (map digits (now (settings .entry)))) done r (now (out .entry)) (now (out .exit)) ⌝ }
+{
+    let mut written = done;
+    let mut i: usize = 0;
+    while i < settings.len() {
+        written = field(wide(settings[i]), written, out);
+        i += 1;
+    }
+    byte(b'\n', written, out)
+}
+
+// Writes a line of a word and two numbers.
+fn line_of_two(name: &[u8], first: usize, second: usize, done: Written, out: &mut [u8]) -> Written
+    ensures { λ r. ⌜ Adds (line (now (name .entry)) (digits first ∷ digits second ∷ [])) done r (now (out .entry)) (now (out .exit)) ⌝ }
+{
+    let of_name = word(name, done, out);
+    let of_first = field(first, of_name, out);
+    let of_second = field(second, of_first, out);
+    byte(b'\n', of_second, out)
+}
+
+// Writes a word and a number behind it.
+fn named(name: &[u8], n: usize, done: Written, out: &mut [u8]) -> Written
+    ensures { λ r. ⌜ Adds (now (name .entry) ++ (letters " " ++ digits n)) done r (now (out .entry)) (now (out .exit)) ⌝ }
+{
+    let of_name = word(name, done, out);
+    field(n, of_name, out)
+}
+
+// Writes a number behind a blank.
+fn field(n: usize, done: Written, out: &mut [u8]) -> Written
+    ensures { λ r. ⌜ Adds (letters " " ++ digits n) done r (now (out .entry)) (now (out .exit)) ⌝ }
+{
+    let of_blank = byte(b' ', done, out);
+    number(n, of_blank, out)
+}
+
+// Writes a word.
+fn word(text: &[u8], done: Written, out: &mut [u8]) -> Written
+    ensures { λ r. ⌜ Adds (now (text .entry)) done r (now (out .entry)) (now (out .exit)) ⌝ }
+{
+    let mut written = done;
+    let mut i: usize = 0;
+    while i < text.len() {
+        written = byte(text[i], written, out);
+        i += 1;
+    }
+    written
+}
+
+// Writes a number in decimal: the digits of its tenth part, then the last digit.
+fn number(n: usize, done: Written, out: &mut [u8]) -> Written
+    ensures { λ r. ⌜ Adds (digits n) done r (now (out .entry)) (now (out .exit)) ⌝ }
+{
+    if n < 10 {
+        return byte(digit(n), done, out);
+    }
+    let of_front = number(n / 10, done, out);
+    byte(digit(n % 10), of_front, out)
+}
+
+// Writes a byte behind what is written so far.
+fn byte(b: u8, done: Written, out: &mut [u8]) -> Written
+    ensures { λ r. ⌜ Adds (b ∷ []) done r (now (out .entry)) (now (out .exit)) ⌝ }
+{
+    let Written::All(at) = done else {
+        return Written::Short;
+    };
+    if at < out.len() {
+        out[at] = b;
+        return Written::All(at + 1);
+    }
+    Written::Short
+}
+
+// The letter of a digit.
+fn digit(d: usize) -> u8
+    requires { ⌜ d < 10 ⌝ }
+    ensures { λ r. ⌜ r ≡ 48 + d ⌝ }
+{
+    b'0' + d as u8
+}
+
+// How many ranks there are from 0 to the highest, with one couple's rank more.
+fn higher(levels: usize, rank: u16) -> usize
+    requires { ⌜ levels < values ⌝ }
+    ensures { λ r. ⌜ (r ≡ raised levels rank) × (r < values) ⌝ }
+{
+    if rank == UNMARKED {
+        return levels;
+    }
+    let marked = long(rank);
+    if marked < levels {
+        return levels;
+    }
+    marked + 1
+}
+
+fn wide(x: u8) -> usize
+    ensures { λ r. ⌜ (r ≡ x) × (r < 256) ⌝ }
+{
+    x as usize
+}
+
+fn long(x: u16) -> usize
+    ensures { λ r. ⌜ (r ≡ x) × (r < values) ⌝ }
+{
+    x as usize
+}
