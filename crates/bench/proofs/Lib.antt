@@ -3,4 +3,3 @@ pub mod Cases
 pub mod Only
 pub mod History
 pub mod Given
-pub mod Finish

@@ -40,7 +40,7 @@ use Rattle.bench.proofs.Log as L
 use Rattle.bench.proofs.Noted as N
 use Rattle.bench.proofs.Noted.Laws as N′
 use Rattle.bench.proofs.Given.{Plain, args, reading, machs, flat, spells, tells, stays, goes, owning}
-use Rattle.bench.proofs.Finish.{finish}
+use Rattle.walks.proofs.Finish.{finish}
 use Rattle.bench.proofs.update as update
 use Rattle.bench.proofs.update.Symbol as update-def
 use Rattle.bench.proofs.update.Symbol.{name as #bench·update}

@@ -47,7 +47,7 @@ use Rattle.bench.proofs.Noted.Laws as N′
 use Rattle.bench.proofs.Stepped as S
 use Rattle.bench.proofs.Stepped.Laws as S′
 use Rattle.bench.proofs.Given.{Plain, args, reading, machs, flat, spells, tells, stays, goes, owning}
-use Rattle.bench.proofs.Finish.{finish}
+use Rattle.walks.proofs.Finish.{finish}
 use Rattle.bench.proofs.step as step′
 use Rattle.bench.proofs.step.Symbol as step-def
 use Rattle.bench.proofs.step.Symbol.{name as #bench·step}

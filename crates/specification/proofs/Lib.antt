@@ -1,0 +1,12 @@
+pub mod Laws
+pub mod Firing
+pub mod Scan
+pub mod Settling
+pub mod Outcomes
+pub mod Filling
+pub mod HandOn
+pub mod Rows
+pub mod Blanks
+pub mod Once
+pub mod Refusals
+pub mod Meanings

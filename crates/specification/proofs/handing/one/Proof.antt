@@ -1,0 +1,26 @@
+use borrow.Author.Needs.{needs}
+use Rattle.specification.proofs.handing.one.Statement.{statement}
+use Rattle.specification.proofs.handing.one.Tie as tie
+
+returns : tie.Need-returns
+returns c = rw (c .before .wide .ensures .0, c .if1 .taken)
+
+returns-2 : tie.Need-returns-2
+returns-2 c = rw (c .before .wide .ensures .0, c .if1 .left)
+
+pub one-spec : {M : Type 1} → statement M
+one-spec =
+    tie.close
+    (tie.spec
+    (λ c. search needs)
+    (λ c. search needs)
+    (λ c. search needs)
+    (λ c. search needs)
+    (λ c. search needs)
+    (λ c. search needs)
+    (λ c. search needs)
+    (λ c κs. search needs)
+    (λ c. search needs)
+    (λ c. search needs)
+    returns
+    returns-2)

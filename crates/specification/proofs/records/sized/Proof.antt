@@ -1,0 +1,62 @@
+use borrow.Author.Needs.{needs}
+use native.Mathlib.Omega.{arith}
+use mathlib.Core.Path.{_≡_, sym, ap, subst}
+use borrow.Author.Tests.{not-true, not-false}
+use Rattle.verdict.proofs.Tests.{it-fails, decides-eqb}
+use Rattle.specification.specs.Records.{sumTo, records, textLength, Ranges}
+use Rattle.specification.proofs.Laws.{laid-out}
+use Rattle.specification.proofs.records.sized.Statement.{statement}
+use Rattle.specification.proofs.records.sized.Tie as tie
+
+-- past the first test the sizes are in range
+in-ranges : (c : tie.Else1) → Ranges (c .before .before .sizes-of .result)
+in-ranges c = c .before .in-range .ensures .holds (not-false _ (c .if1 .left))
+
+sizes-of-requires : tie.Need-sizes-of-requires
+sizes-of-requires c κs = omega (arith, laid-out _ (c .before .pre), c .before .pre .headed .enough)
+
+returns : tie.Need-returns
+returns c = it-fails λ e. c .before .in-range .ensures .fails (not-true _ (c .if1 .taken)) (subst Ranges (sym (c .before .before .sizes-of .ensures)) (e .ranges))
+
+length-of-requires : tie.Need-length-of-requires
+length-of-requires c κs = omega (arith, c .before .before .before .before .pre .headed .enough)
+
+mul-if2 : tie.Need-mul-if2
+mul-if2 c = omega (arith, in-ranges (c .before .before) .few-states)
+
+returns-2 : tie.Need-returns-2
+returns-2 c = it-fails λ e. omega (arith, e .states, ap (λ z. z .states) (c .before .before .before .before .before .sizes-of .ensures))
+
+add-texts-sum : tie.Need-add-texts-sum
+add-texts-sum c = omega (arith, in-ranges (c .before .before .before .before) .few-states, in-ranges (c .before .before .before .before) .few-evolutions)
+
+texts-sum-requires : tie.Need-texts-sum-requires
+texts-sum-requires c κs =
+    let z = c .before .before .before .before .before .before .sizes-of .ensures in
+    omega (arith, laid-out _ (c .before .before .before .before .before .before .before .before .pre), c .before .before .before .before .before .before .before .before .pre .headed .few, ap (λ z. z .states) z, ap (λ z. z .evolutions) z, ap (λ z. z .first) z)
+
+length-of-requires-2 : tie.Need-length-of-requires-2
+length-of-requires-2 c κs = omega (arith, c .before .before .before .before .before .before .before .before .before .pre .headed .enough)
+
+returns-3 : tie.Need-returns-3
+returns-3 c =
+    let z = c .before .before .before .before .before .before .before .before .sizes-of .ensures in
+    let s = ap (λ z. sumTo (textLength (c .before .before .before .before .before .before .before .before .before .before .args .file .now) z) (records z)) z in
+    decides-eqb (c .before .texts-sum .result) (c .length-of2 .result)
+    (λ e. record { ranges = subst Ranges z (in-ranges (c .before .before .before .before .before .before)); states = omega (arith, ap (λ z. z .states) z); texts = omega (arith, s) })
+    (λ e. omega (arith, s, e .texts))
+
+pub sized-spec : {M : Type 1} → statement M
+sized-spec =
+    tie.close
+    (tie.spec
+    sizes-of-requires
+    (λ c κs. search needs)
+    returns
+    length-of-requires
+    mul-if2
+    returns-2
+    add-texts-sum
+    texts-sum-requires
+    length-of-requires-2
+    returns-3)

@@ -1,0 +1,44 @@
+use borrow.Author.Needs.{needs}
+use native.Mathlib.Omega.{arith}
+use mathlib.Core.Path.{_≡_, subst}
+use Prim.Native.Nat.{_+_, _≤_}
+use lib.ListN.{getD}
+use Rattle.condition.specs.Condition.{Says}
+use Rattle.specification.specs.Records.{sumTo, records, textLength}
+use Rattle.specification.specs.Rules.{textAt}
+use Rattle.specification.proofs.Firing.{part-is}
+use Rattle.specification.proofs.Laws.{sum-below}
+use Rattle.specification.proofs.rules.says.Statement.{statement}
+use Rattle.specification.proofs.rules.says.Tie as tie
+
+inside : (c : tie.After-shared-slice-known) → let a = c .before .args in sumTo (textLength (a .file .now) (a .z)) (a .r) + textLength (a .file .now) (a .z) (a .r) ≤ sumTo (textLength (a .file .now) (a .z)) (records (a .z))
+inside c = let a = c .before .args in sum-below (textLength (a .file .now) (a .z)) (a .r) (records (a .z)) (omega arith)
+
+starts : (c : tie.After-shared-slice-known) → let a = c .before .args in getD (a .starts .now) (a .r) 0 ≡ textAt (a .file .now) (a .z) (a .r)
+starts c = let a = c .before .args in c .before .pre .0 .at (a .r) (omega arith)
+
+add-end : tie.Need-add-end
+add-end c = omega (arith, inside (c .before .before), starts (c .before .before))
+
+part-read-end : tie.Need-part-read-end
+part-read-end c = omega (arith, inside (c .before .before), starts (c .before .before))
+
+returns : tie.Need-returns
+returns c =
+    let a = c .before .before .before .before .before .args in
+    let at = getD (a .starts .now) (a .r) 0 in
+    subst (λ w. Says (a .z .inputs) (a .v) w (c .read .result)) (part-is (a .file .now) (a .z) (a .r) at (at + c .before .before .text-length .result) (starts (c .before .before .before .before)) (omega arith)) (c .read .ensures)
+
+pub says-spec : {M : Type 1} → statement M
+says-spec =
+    tie.close
+    (tie.spec
+    (λ c. search needs)
+    (λ c. search needs)
+    (λ c κs. search needs)
+    add-end
+    (λ c. search needs)
+    (λ c. search needs)
+    part-read-end
+    (λ c κs. search needs)
+    returns)

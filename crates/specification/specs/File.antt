@@ -1,0 +1,69 @@
+-- The contents of a file (document 01, "Specification file"): refusal 1. Assumes nothing: these are definitions.
+use mathlib.Core.Path.{_≡_}
+use mathlib.Core.List.{List, [], _∷_}
+use Prim.Native.Char.{code}
+use Prim.Native.Nat.{ℕ, zero, suc, _+_, _*_, _%_, _≤_, _<_}
+use lib.ListN.{length, getD, take}
+use Rattle.specification.specs.Limits.{mostBytes}
+
+-- a number of two bytes, low byte first
+abbrev pub twoAt : List ℕ → ℕ → ℕ
+twoAt file at = getD file at 0 + 256 * getD file (at + 1) 0
+
+-- the four letters SEQ1
+abbrev pub mark : List ℕ
+mark = code "S" ∷ code "E" ∷ code "Q" ∷ code "1" ∷ []
+
+-- then a byte, the number of entries
+abbrev pub countOf : List ℕ → ℕ
+countOf file = getD file 4 0
+
+-- then the entries, five bytes each: kind, offset, length
+abbrev pub entryAt : ℕ → ℕ
+entryAt k = 5 + 5 * k
+
+abbrev pub kindOf : List ℕ → ℕ → ℕ
+kindOf file k = getD file (entryAt k) 0
+
+abbrev pub offsetOf : List ℕ → ℕ → ℕ
+offsetOf file k = twoAt file (entryAt k + 1)
+
+abbrev pub lengthOf : List ℕ → ℕ → ℕ
+lengthOf file k = twoAt file (entryAt k + 3)
+
+-- the first body starts where the entries end (byte 25 for four of them), each next one where the last ended
+unfoldable pub startOf : List ℕ → ℕ → ℕ
+startOf file zero = entryAt (countOf file)
+startOf file (suc k) = startOf file k + lengthOf file k
+
+-- kinds 1 to 4
+abbrev pub kinds : ℕ
+kinds = 4
+
+-- neither too long nor too short; mark and count
+pub record Headed (file : List ℕ) : Type 0 where
+  pub few : length file ≤ mostBytes
+  pub enough : entryAt kinds ≤ length file
+  pub marked : take 4 file ≡ mark
+  pub count : countOf file ≡ kinds
+
+-- kinds rising from 1, bodies end to end, the last ends with the file
+pub record Entry (file : List ℕ) (k : ℕ) : Type 0 where
+  pub kind : kindOf file k ≡ k + 1
+  pub offset : offsetOf file k ≡ startOf file k
+
+pub record Entries (file : List ℕ) : Type 0 where
+  pub each : (k : ℕ) → k < kinds → Entry file k
+  pub ends : startOf file kinds ≡ length file
+
+-- kind 1 has 4 bytes, kinds 2 and 3 a multiple of 3
+pub record Measured (file : List ℕ) : Type 0 where
+  pub sizes : lengthOf file 0 ≡ 4
+  pub states : lengthOf file 1 % 3 ≡ 0
+  pub evolutions : lengthOf file 2 % 3 ≡ 0
+
+-- refusal 1 does not apply
+pub record WellFormed (file : List ℕ) : Type 0 where
+  pub headed : Headed file
+  pub entries : Entries file
+  pub measured : Measured file

@@ -1,0 +1,9 @@
+pub mod Limits
+pub mod File
+pub mod Records
+pub mod Rules
+pub mod Evolutions
+pub mod Reading
+pub mod Segments
+pub mod Filling
+pub mod Private

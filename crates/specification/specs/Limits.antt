@@ -1,0 +1,26 @@
+-- Sizes of a file (document 01, "The ground"); inputs and states are those of a machine. Assumes nothing: these are definitions.
+use Prim.Native.Nat.{ℕ, _+_}
+use Rattle.machine.specs.Limits.{mostStates}
+
+-- 1 to 16 outputs
+abbrev pub mostOutputs : ℕ
+mostOutputs = 16
+
+-- at most 992 evolutions
+abbrev pub mostEvolutions : ℕ
+mostEvolutions = 992
+
+-- so many records at most: states, then evolutions
+abbrev pub mostRecords : ℕ
+mostRecords = mostStates + mostEvolutions
+
+-- files up to 65,535 bytes
+abbrev pub mostBytes : ℕ
+mostBytes = 65535
+
+-- what a refusal by 4 to 13 leaves in the needed table bytes, and in the needed words
+abbrev pub blankMove : ℕ
+blankMove = 255
+
+abbrev pub blankWord : ℕ
+blankWord = 65535

@@ -1,0 +1,82 @@
+-- Reading a file: its checks in their order, and what it leaves (document 01, "Refusals by number").
+-- Assumes nothing: these are definitions.
+use mathlib.Core.Path.{_≡_}
+use mathlib.Core.List.{List, [], _∷_}
+use Prim.Native.Nat.{ℕ}
+use lib.ListN.{length}
+use Rattle.verdict.specs.Checks.{Check, check, Unless, Short, Passed, Judged}
+use Rattle.verdict.specs.Buffers.{Left}
+use Rattle.verdict.specs.declared.Answer.{Answer}
+use Rattle.machine.specs.Moves.{Transient, Unreached, Start}
+use Rattle.specification.specs.Limits.{blankMove, blankWord}
+use Rattle.specification.specs.File.{WellFormed}
+use Rattle.specification.specs.Records.{sizesOf, settings, couples, word, Sized, Beyond, Own, Twice, SameWord}
+use Rattle.specification.specs.Rules.{Unreads, TwoRules, NoRule, Moves, MoveAt}
+use Rattle.specification.specs.Evolutions.{Handed}
+use Rattle.specification.specs.declared.Evolution.{Evolution}
+use Rattle.specification.specs.declared.Contents.{Contents}
+use Rattle.specification.specs.declared.records.Sizes.{Sizes}
+
+-- the checks of a file, in their order, at room for so many table bytes, words and records
+abbrev pub fileChecks : List ℕ → ℕ → ℕ → ℕ → List Check
+fileChecks file tableRoom wordRoom recordRoom =
+    let z = sizesOf file in
+    let m = settings z in
+    -- file too long or too short, mark, count, kinds, offsets or end wrong; kind 1 not 4 bytes; kind 2 or 3 not a multiple of 3
+    check 1 (Unless (WellFormed file))
+    -- a size outside its range; initial not below S; kind 2 not 3 × S bytes; over 992 evolutions; condition lengths not summing to kind 4
+    ∷ check 2 (Unless (Sized file))
+    -- a table, word or record buffer too short, the first short one in that order
+    ∷ check 3 (Short (couples z) tableRoom)
+    ∷ check 3 (Short (z .states) wordRoom)
+    ∷ check 3 (Short (z .evolutions) recordRoom)
+    -- output bit beyond the outputs; state not below S in a record
+    ∷ check 4 (Beyond file z)
+    -- condition does not read
+    ∷ check 5 (Unreads file z)
+    -- evolution to its own source
+    ∷ check 6 (Own file z)
+    -- same source and target as an earlier evolution
+    ∷ check 7 (Twice file z)
+    -- two rules hold
+    ∷ check 8 (TwoRules file z m)
+    -- no rule holds
+    ∷ check 9 (NoRule file z m)
+    -- transient
+    ∷ check 10 (Transient (Moves file z) (z .states) m)
+    -- output word of an earlier state
+    ∷ check 11 (SameWord file z)
+    -- state never reached
+    ∷ check 12 (Unreached (Moves file z) (z .states) m (z .initial))
+    -- no start
+    ∷ check 13 (Unless (Start (Moves file z) m (z .initial)))
+    ∷ []
+
+-- a refusal: the sizes are all zero
+abbrev pub refusalOf : Answer → Contents
+refusalOf a = record { answer = a; inputs = 0; outputs = 0; states = 0; initial = 0; evolutions = 0 }
+
+-- success: the sizes of the file
+abbrev pub contentsOf : Answer → Sizes → Contents
+contentsOf a z =
+    record {
+      answer = a;
+      inputs = z .inputs;
+      outputs = z .outputs;
+      states = z .states;
+      initial = z .initial;
+      evolutions = z .evolutions;
+    }
+
+-- Reading a file at room for so many records: the verdict, the sizes, the table and the words.
+pub record ReadHere (file table₀ words₀ : List ℕ) (room : ℕ) (r : Contents) (table₁ words₁ : List ℕ) : Type 0 where
+  pub verdict : Judged (fileChecks file (length table₀) (length words₀) room) Passed (r .answer)
+  pub refused : (r .answer .number ≡ 0 → ⊥) → r ≡ refusalOf (r .answer)
+  pub done : r .answer .number ≡ 0 → r ≡ contentsOf (r .answer) (sizesOf file)
+  pub table : Left (r .answer .number) (couples (sizesOf file)) blankMove (MoveAt file (sizesOf file) (settings (sizesOf file))) table₀ table₁
+  pub words : Left (r .answer .number) (sizesOf file .states) blankWord (λ s w. w ≡ word file (sizesOf file) s) words₀ words₁
+
+-- Reading a file into lent records: the same, and the records.
+pub record ReadAs (file table₀ words₀ : List ℕ) (records₀ : List Evolution) (r : Contents) (table₁ words₁ : List ℕ) (records₁ : List Evolution) : Type 0 where
+  pub here : ReadHere file table₀ words₀ (length records₀) r table₁ words₁
+  pub records : Handed (r .answer .number) file (sizesOf file) records₀ records₁

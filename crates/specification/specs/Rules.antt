@@ -1,0 +1,78 @@
+-- Rules and moves (document 01, "Moves and soundness"): refusals 5, 8 and 9. Assumes nothing: these are definitions.
+use mathlib.Core.Path.{_≡_}
+use mathlib.Core.Bool.{true, cond}
+use mathlib.Core.List.{List}
+use Prim.Native.Nat.{ℕ, _+_, _<_}
+use lib.ListN.{take, drop}
+use lib.Dec.{ltb}
+use Rattle.condition.specs.Grammar.{holds}
+use Rattle.condition.specs.Condition.{Reads}
+use Rattle.machine.specs.Couples.{Couple}
+use Rattle.specification.specs.Records.{sumTo, records, recordAt, source, target, textLength}
+use Rattle.specification.specs.declared.records.Sizes.{Sizes}
+
+-- kind 4 follows the records: the condition texts, states first, then evolutions, end to end
+abbrev pub textsAt : Sizes → ℕ
+textsAt z = recordAt z (records z)
+
+abbrev pub textAt : List ℕ → Sizes → ℕ → ℕ
+textAt file z r = textsAt z + sumTo (textLength file z) r
+
+abbrev pub textOf : List ℕ → Sizes → ℕ → List ℕ
+textOf file z r = take (textLength file z r) (drop (textAt file z r) file)
+
+-- refusal 5: the condition of record r does not read
+pub record Unreads (file : List ℕ) (z : Sizes) (r : ℕ) : Type 0 where
+  pub below : r < records z
+  pub unread : Reads (z .inputs) (textOf file z r) → ⊥
+
+-- a text is that of a condition which holds at the setting v
+pub record Holds (inputs v : ℕ) (text : List ℕ) : Type 0 where
+  pub reads : Reads inputs text
+  pub true-there : holds v (reads .tree) ≡ true
+
+-- each record is a rule of one state and leads to one: a state's rest condition of itself to itself, an evolution of its source to its
+-- target
+unfoldable pub ruleOf : List ℕ → Sizes → ℕ → ℕ
+ruleOf file z r = cond (ltb r (z .states)) r (source file z r)
+
+unfoldable pub leadsTo : List ℕ → Sizes → ℕ → ℕ
+leadsTo file z r = cond (ltb r (z .states)) r (target file z r)
+
+-- record r is a rule of s, and holds at v
+pub record Fires (file : List ℕ) (z : Sizes) (s v r : ℕ) : Type 0 where
+  pub below : r < records z
+  pub rule : ruleOf file z r ≡ s
+  pub holds : Holds (z .inputs) v (textOf file z r)
+
+-- two different numbers are F
+pub record Two (F : ℕ → Type 0) : Type 0 where
+  pub low : ℕ
+  pub high : ℕ
+  pub differ : low < high
+  pub one : F low
+  pub other : F high
+
+-- refusal 8: two rules hold at the couple p, at so many settings
+pub record TwoRules (file : List ℕ) (z : Sizes) (settings p : ℕ) : Type 0 where
+  pub s : ℕ
+  pub v : ℕ
+  pub couple : Couple (z .states) settings s v p
+  pub two : Two (Fires file z s v)
+
+-- refusal 9: no rule holds at the couple p
+pub record NoRule (file : List ℕ) (z : Sizes) (settings p : ℕ) : Type 0 where
+  pub s : ℕ
+  pub v : ℕ
+  pub couple : Couple (z .states) settings s v p
+  pub none : (r : ℕ) → Fires file z s v r → ⊥
+
+-- the move at (s, v) is t, the target of a rule that holds
+pub record Moves (file : List ℕ) (z : Sizes) (s v t : ℕ) : Type 0 where
+  pub rule : ℕ
+  pub fires : Fires file z s v rule
+  pub leads : leadsTo file z rule ≡ t
+
+-- x is the move of the couple p
+pub record MoveAt (file : List ℕ) (z : Sizes) (settings p x : ℕ) : Type 0 where
+  pub move : (s v : ℕ) → Couple (z .states) settings s v p → Moves file z s v x

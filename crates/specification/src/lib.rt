@@ -1,0 +1,82 @@
+// Reading a specification file (document 01): its checks, its table of moves, its output words, and its evolutions as records.
+ghost use lib.ListN.{getD};
+ghost use Rattle.verdict.specs.Checks.{Decides};
+ghost use Rattle.specification.specs.Limits.{mostEvolutions};
+ghost use Rattle.specification.specs.Evolutions.{blank, Met};
+ghost use Rattle.specification.specs.Reading.{ReadHere, ReadAs};
+
+mod file;
+mod handing;
+mod reading;
+mod records;
+mod rules;
+
+use crate::handing::fill;
+use crate::handing::take_out;
+use crate::reading::read_core;
+use crate::rules::met;
+use verdict::Answer;
+
+// The most outputs.
+pub const OUTPUTS: usize = 16;
+
+// The most evolutions.
+pub const EVOLUTIONS: usize = 992;
+
+// The most bytes of a file.
+pub const BYTES: usize = 65535;
+
+// An evolution: its source and target, the place in the file and the length of its condition.
+#[repr(C)]
+pub struct Evolution {
+    pub source: u8,
+    pub target: u8,
+    pub at: u16,
+    pub length: u8,
+}
+
+// The answer, and the sizes of the file, all zero on refusal.
+pub struct Contents {
+    pub answer: Answer,
+    pub inputs: usize,
+    pub outputs: usize,
+    pub states: usize,
+    pub initial: usize,
+    pub evolutions: usize,
+}
+
+// Reads a file: its table of moves, its words and its evolutions, or the first check that fails, at its smallest place.
+pub fn read(file: &[u8], table: &mut [u8], words: &mut [u16], records: &mut [Evolution]) -> Contents
+    ensures { λ r. ⌜ ReadAs (now (file .entry)) (now (table .entry)) (now (words .entry)) (now (records .entry)) r (now (table .exit)) (now (words .exit)) (now (records .exit)) ⌝ }
+{
+    let core = read_core(file, table, words, records.len());
+    fill(records, file, core.from, core.text, core.count, core.good);
+    core.contents
+}
+
+// The same for a program that keeps no records: as many as a file may have are lent from here.
+pub fn read_here(file: &[u8], table: &mut [u8], words: &mut [u16]) -> Contents
+    ensures { λ r. ⌜ ReadHere (now (file .entry)) (now (table .entry)) (now (words .entry)) mostEvolutions r (now (table .exit)) (now (words .exit)) ⌝ }
+{
+    let mut records = [Evolution {
+        source: 0,
+        target: 0,
+        at: 0,
+        length: 0,
+    }; EVOLUTIONS];
+    read(file, table, words, &mut records)
+}
+
+// Whether the condition of evolution e of a file that was read holds at the setting; beyond the records none does.
+pub fn evolution_holds(
+    records: &[Evolution],
+    e: usize,
+    file: &[u8],
+    inputs: usize,
+    setting: usize,
+) -> bool
+    ensures { λ r. ⌜ Decides (Met (now (file .entry)) (getD (now (records .entry)) e blank) inputs setting) r ⌝ }
+{
+    let evolution = take_out(records, e);
+    met(file, evolution, inputs, setting)
+}

@@ -1,0 +1,164 @@
+// Rules and moves: refusals 5 and 8, and the table.
+ghost use mathlib.Core.Path.{_≡_};
+ghost use Prim.Native.Nat.{ℕ, _+_, _*_, _<_, _≤_};
+ghost use lib.ListN.{length};
+ghost use Rattle.verdict.specs.Checks.{Decides, Finds};
+ghost use Rattle.verdict.specs.Buffers.{Filled};
+ghost use Rattle.condition.specs.Condition.{Says};
+ghost use Rattle.machine.specs.Limits.{mostSettings};
+ghost use Rattle.specification.specs.Limits.{blankMove};
+ghost use Rattle.specification.specs.Records.{records};
+ghost use Rattle.specification.specs.Rules.{textOf, Holds, Unreads, ruleOf, leadsTo, Fires, TwoRules};
+ghost use Rattle.specification.specs.Evolutions.{Met};
+ghost use Rattle.specification.specs.Private.{Laid, Placed, Noted};
+use crate::EVOLUTIONS;
+use crate::Evolution;
+use crate::records::Sizes;
+use crate::records::record_at;
+use crate::records::source;
+use crate::records::target;
+use crate::records::text_length;
+use condition::Meaning;
+use machine::STATES;
+use tables::wide;
+use verdict::Found;
+
+// The most records, a text each.
+pub(crate) const TEXTS: usize = STATES + EVOLUTIONS;
+
+// What a table holds where there is no move.
+pub(crate) const BLANK_MOVE: u8 = 255;
+
+// Where the text of each record begins.
+pub(crate) fn starts_of(file: &[u8], z: Sizes) -> [usize; TEXTS]
+    requires { ⌜ Laid (now file) z ⌝ }
+    ensures { λ t. ⌜ Placed (now (file .entry)) z t ⌝ }
+{
+    let count = z.states + z.evolutions;
+    let mut starts = [0usize; TEXTS];
+    let mut at = record_at(z, count);
+    for r in 0..count {
+        starts[r] = at;
+        at = at + text_length(file, z, r);
+    }
+    starts
+}
+
+// What the condition of record r says at the setting v.
+fn says(file: &[u8], z: Sizes, starts: &[usize; TEXTS], r: usize, v: usize) -> Meaning
+    requires { ⌜ Placed (now file) z (now starts) × (r < records z) ⌝ }
+    ensures { λ m. ⌜ Says (z .inputs) v (textOf (now (file .entry)) z r) m ⌝ }
+{
+    let at = starts[r];
+    let end = at + text_length(file, z, r);
+    condition::read(&file[at..end], z.inputs, v)
+}
+
+// Refusal 5: the first condition that does not read.
+pub(crate) fn first_unread(file: &[u8], z: Sizes, starts: &[usize; TEXTS]) -> Found
+    requires { ⌜ Placed (now file) z (now starts) ⌝ }
+    ensures { λ t. ⌜ Finds (Unreads (now (file .entry)) z) t ⌝ }
+{
+    let count = z.states + z.evolutions;
+    for r in 0..count {
+        let Meaning::Is(_) = says(file, z, starts, r, 0) else {
+            return Found::At(r);
+        };
+    }
+    Found::Nothing
+}
+
+// Whether the condition of record r holds at the setting v.
+fn rule_holds(file: &[u8], z: Sizes, starts: &[usize; TEXTS], r: usize, v: usize) -> bool
+    requires { ⌜ Placed (now file) z (now starts) × (r < records z) ⌝ }
+    ensures { λ b. ⌜ Decides (Holds (z .inputs) v (textOf (now (file .entry)) z r)) b ⌝ }
+{
+    let Meaning::Is(b) = says(file, z, starts, r, v) else {
+        return false;
+    };
+    b
+}
+
+// The state that record r is a rule of.
+fn rule_of(file: &[u8], z: Sizes, r: usize) -> usize
+    requires { ⌜ Laid (now file) z × (r < records z) ⌝ }
+    ensures { λ t. ⌜ t ≡ ruleOf (now (file .entry)) z r ⌝ }
+{
+    if r < z.states {
+        return r;
+    }
+    source(file, z, r)
+}
+
+// The state that record r leads to.
+fn leads_to(file: &[u8], z: Sizes, r: usize) -> u8
+    requires { ⌜ Laid (now file) z × (r < records z) ⌝ }
+    ensures { λ t. ⌜ t ≡ leadsTo (now (file .entry)) z r ⌝ }
+{
+    if r < z.states {
+        return r as u8;
+    }
+    target(file, z, r) as u8
+}
+
+// Whether record r is a rule of s and holds at v.
+fn fires(file: &[u8], z: Sizes, starts: &[usize; TEXTS], s: usize, v: usize, r: usize) -> bool
+    requires { ⌜ Placed (now file) z (now starts) × (r < records z) ⌝ }
+    ensures { λ t. ⌜ Decides (Fires (now (file .entry)) z s v r) t ⌝ }
+{
+    if rule_of(file, z, r) != s {
+        return false;
+    }
+    rule_holds(file, z, starts, r, v)
+}
+
+// Refusal 8: the first couple at which two rules hold. Up to it the table is filled with the moves, blank where no rule holds.
+pub(crate) fn fill_moves(
+    file: &[u8],
+    z: Sizes,
+    starts: &[usize; TEXTS],
+    m: usize,
+    table: &mut [u8],
+) -> Found
+    requires { ⌜ Placed (now file) z (now starts) × ((r : ℕ) → r < records z → leadsTo (now file) z r < z .states) × (m ≤ mostSettings) × (z .states * m ≤ length (now table)) ⌝ }
+    ensures finds { λ t. ⌜ Finds (TwoRules (now (file .entry)) z m) t ⌝ }
+    ensures fills { λ t. ⌜ Filled (z .states * m) (λ p x. t ≡ Found.Nothing → Noted (now (file .entry)) z m p x) (now (table .entry)) (now (table .exit)) ⌝ }
+{
+    let states = z.states;
+    let count = states + z.evolutions;
+    let mut found = Found::Nothing;
+    'search: for s in 0..states {
+        for v in 0..m {
+            let mut to = BLANK_MOVE;
+            if rule_holds(file, z, starts, s, v) {
+                to = s as u8;
+            }
+            for e in states..count {
+                if fires(file, z, starts, s, v, e) {
+                    if to != BLANK_MOVE {
+                        found = Found::At(s * m + v);
+                        break 'search;
+                    }
+                    to = leads_to(file, z, e);
+                }
+            }
+            table[s * m + v] = to;
+        }
+    }
+    found
+}
+
+// Whether the condition of an evolution's record, within the file, holds at the setting.
+pub(crate) fn met(file: &[u8], e: Evolution, inputs: usize, setting: usize) -> bool
+    ensures { λ r. ⌜ Decides (Met (now (file .entry)) e inputs setting) r ⌝ }
+{
+    let at = e.at as usize;
+    let end = at + wide(e.length);
+    if file.len() < end {
+        return false;
+    }
+    let Meaning::Is(b) = condition::read(&file[at..end], inputs, setting) else {
+        return false;
+    };
+    b
+}

@@ -1,0 +1,6 @@
+pub mod Machines
+pub mod Records
+pub mod Rules
+pub mod Reading
+pub mod Files
+pub mod Rows
