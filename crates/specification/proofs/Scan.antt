@@ -5,6 +5,7 @@ use mathlib.Core.List.{List}
 use Prim.Native.Nat.{ℕ, _+_, _*_, _≤_, _<_}
 use native.Mathlib.Nat.{lt-of-lt-of-le}
 use native.Mathlib.Omega.{arith}
+use native.Mathlib.Decide.{decLt}
 use lib.ListN.{length, set, length-set}
 use borrow.Author.Count.{below-more}
 use Rattle.verdict.specs.Buffers.{Filled}
@@ -13,10 +14,17 @@ use Rattle.machine.specs.Couples.{Couple}
 use Rattle.machine.proofs.Couples.{same-couple}
 use Rattle.specification.specs.Limits.{blankMove}
 use Rattle.specification.specs.Records.{records}
-use Rattle.specification.specs.Rules.{textOf, Holds, ruleOf, leadsTo, Fires, Two, TwoRules}
+use Rattle.specification.specs.Rules.{leadsTo, Fires, Two, TwoRules}
 use Rattle.specification.specs.Private.{Noted}
 use Rattle.specification.specs.declared.records.Sizes.{Sizes}
-use Rattle.specification.proofs.Firing.{rule-state, leads-state}
+use Rattle.specification.proofs.Firing.{rule-state}
+
+by-order : {P : Type 0} (q n : ℕ) → (q < n → P) → (n ≤ q → P) → P
+by-order {P} q n f g = by (decLt q n)
+  where
+    by : Dec (q < n) → P
+    by (yes h) = f h
+    by (no h) = g (omega arith)
 
 -- of the numbers below n at most one is an F, and `to` is where it leads, or the blank
 pub record Tally (F : ℕ → Type 0) (lead : ℕ → ℕ) (n to : ℕ) : Type 0 where
@@ -36,6 +44,15 @@ module _ {F : ℕ → Type 0} {lead : ℕ → ℕ} {n to : ℕ} (t : Tally F lea
         single = λ q r l h f. below-more (λ r. q < r → F q → F r → ⊥) n (λ r h l f. t .single q r l h f) (λ l f. not) r h l f;
       }
 
+  -- none of those from n up to m
+  pub tally-past : {m : ℕ} → n ≤ m → ((q : ℕ) → q < m → n ≤ q → F q → ⊥) → Tally F lead m to
+  tally-past {m} l not =
+      record {
+        one = λ e. let w = t .one e in (w .0, omega (arith, w .1), w .2, w .3);
+        none = λ e q h f. by-order q n (λ k. t .none e q k f) (λ k. not q h k f);
+        single = λ q r k h f g. by-order r n (λ b. t .single q r k b f g) (λ b. not r h b g);
+      }
+
   pub tally-take : to ≡ blankMove → lead n < blankMove → F n → Tally F lead (n + 1) (lead n)
   tally-take e b here =
       record {
@@ -47,29 +64,11 @@ module _ {F : ℕ → Type 0} {lead : ℕ → ℕ} {n to : ℕ} (t : Tally F lea
   pub tally-two : (to ≡ blankMove → ⊥) → F n → Two F
   tally-two e here = let w = t .one e in record { low = w .0; high = n; differ = w .1; one = w .2; other = here }
 
-module _ (file : List ℕ) (z : Sizes) (s v : ℕ) (below : s < z .states) where
-  -- of the states' records only s is a rule of s
-  only : (q : ℕ) → q < z .states → Fires file z s v q → q ≡ s
-  only q l f = sym (rule-state file z q l) ∙ f .rule
-
-  alone : (q r : ℕ) → q < r → r < z .states → Fires file z s v q → Fires file z s v r → ⊥
-  alone q r l h f g = let a = only q (omega arith) f in let b = only r h g in omega arith
-
-  pub tally-rests : {to : ℕ} → to ≡ s → s < blankMove → Holds (z .inputs) v (textOf file z s) → Tally (Fires file z s v) (leadsTo file z) (z .states) to
-  tally-rests {to} e b h =
-      record {
-        one = λ _. (s, below, record { below = omega arith; rule = rule-state file z s below; holds = h }, leads-state file z s below ∙ sym e);
-        none = λ n. absurd (omega arith);
-        single = alone;
-      }
-
-  pub tally-leaves : {to : ℕ} → to ≡ blankMove → (Holds (z .inputs) v (textOf file z s) → ⊥) → Tally (Fires file z s v) (leadsTo file z) (z .states) to
-  tally-leaves e n =
-      record {
-        one = λ x. absurd (x e);
-        none = λ _ q l f. n (subst (Fires file z s v) (only q l f) f .holds);
-        single = alone;
-      }
+-- the records below s are rules of other states
+pub tally-start : {file : List ℕ} {z : Sizes} {s v to : ℕ} → s < z .states → to ≡ blankMove → Tally (Fires file z s v) (leadsTo file z) s to
+tally-start {file} {z} {s} {v} h e =
+    let other : (q : ℕ) → q < s → Fires file z s v q → ⊥ = λ q l f. let a = sym (rule-state file z q (omega arith)) ∙ f .rule in omega arith in
+    record { one = λ n. absurd (n e); none = λ _. other; single = λ q r l h f g. other r h g }
 
 -- (s, v) is the only couple of its number
 module _ {file : List ℕ} {z : Sizes} {m s v n to : ℕ} (h : v < m) (t : Tally (Fires file z s v) (leadsTo file z) n to) (all : records z ≤ n) where

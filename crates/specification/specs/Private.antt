@@ -10,7 +10,7 @@ use Rattle.verdict.specs.declared.Answer.{Answer}
 use Rattle.machine.specs.Couples.{Couple}
 use Rattle.specification.specs.Limits.{mostBytes, blankMove, blankWord}
 use Rattle.specification.specs.Records.{sumTo, word, records, recordAt, textLength, sizesOf, Ranges, Beyond, Own, Twice, SameWord}
-use Rattle.specification.specs.Rules.{textsAt, textAt, leadsTo, Fires, TwoRules, MoveAt}
+use Rattle.specification.specs.Rules.{textsAt, textAt, ruleOf, leadsTo, Fires, TwoRules, MoveAt}
 use Rattle.specification.specs.Segments.{soundChecks}
 use Rattle.specification.specs.Reading.{ReadHere}
 use Rattle.specification.specs.declared.records.Sizes.{Sizes}
@@ -35,6 +35,16 @@ pub record Laid (file : List ℕ) (z : Sizes) : Type 0 where
 pub record Placed (file : List ℕ) (z : Sizes) (starts : List ℕ) : Type 0 where
   pub laid : Laid file z
   pub at : (r : ℕ) → r < records z → getD starts r 0 ≡ textAt file z r
+
+-- n is the next rule, after record r, of the state that r is a rule of; the number of records where there is none
+pub record Follows (file : List ℕ) (z : Sizes) (r n : ℕ) : Type 0 where
+  pub after : r < n
+  pub upto : n ≤ records z
+  pub same : n < records z → ruleOf file z n ≡ ruleOf file z r
+  pub between : (q : ℕ) → q < n → r < q → ruleOf file z q ≡ ruleOf file z r → ⊥
+
+pub record Linked (file : List ℕ) (z : Sizes) (next : List ℕ) : Type 0 where
+  pub at : (r : ℕ) → r < records z → Follows file z r (getD next r 0)
 
 -- x stands for the couple p: the move, or the blank where no rule holds
 pub record Noted (file : List ℕ) (z : Sizes) (m p x : ℕ) : Type 0 where

@@ -26,6 +26,7 @@ use crate::rules::BLANK_MOVE;
 use crate::rules::TEXTS;
 use crate::rules::fill_moves;
 use crate::rules::first_unread;
+use crate::rules::next_rules;
 use crate::rules::starts_of;
 use tables::CoupleCheck;
 use tables::settings;
@@ -198,7 +199,8 @@ fn settle(file: &[u8], z: Sizes, m: usize, table: &mut [u8], words: &mut [u16]) 
         return a;
     }
     fill_words(file, z, words);
-    if let Found::At(p) = fill_moves(file, z, &starts, m, table) {
+    let next = next_rules(file, z);
+    if let Found::At(p) = fill_moves(file, z, &starts, &next, m, table) {
         return Answer {
             number: 8,
             place: p,

@@ -8,9 +8,9 @@ ghost use Rattle.condition.specs.Condition.{Says};
 ghost use Rattle.machine.specs.Limits.{mostSettings};
 ghost use Rattle.specification.specs.Limits.{blankMove};
 ghost use Rattle.specification.specs.Records.{records};
-ghost use Rattle.specification.specs.Rules.{textOf, Holds, Unreads, ruleOf, leadsTo, Fires, TwoRules};
+ghost use Rattle.specification.specs.Rules.{textOf, Holds, Unreads, ruleOf, leadsTo, TwoRules};
 ghost use Rattle.specification.specs.Evolutions.{Met};
-ghost use Rattle.specification.specs.Private.{Laid, Placed, Noted};
+ghost use Rattle.specification.specs.Private.{Laid, Placed, Follows, Linked, Noted};
 use crate::EVOLUTIONS;
 use crate::Evolution;
 use crate::records::Sizes;
@@ -101,15 +101,32 @@ fn leads_to(file: &[u8], z: Sizes, r: usize) -> u8
     target(file, z, r) as u8
 }
 
-// Whether record r is a rule of s and holds at v.
-fn fires(file: &[u8], z: Sizes, starts: &[usize; TEXTS], s: usize, v: usize, r: usize) -> bool
-    requires { ⌜ Placed (now file) z (now starts) × (r < records z) ⌝ }
-    ensures { λ t. ⌜ Decides (Fires (now (file .entry)) z s v r) t ⌝ }
+// The next rule, after record r, of the state that r is a rule of; the number of records where there is none.
+fn next_rule(file: &[u8], z: Sizes, r: usize) -> usize
+    requires { ⌜ Laid (now file) z × (r < records z) ⌝ }
+    ensures { λ t. ⌜ Follows (now (file .entry)) z r t ⌝ }
 {
-    if rule_of(file, z, r) != s {
-        return false;
+    let s = rule_of(file, z, r);
+    let count = z.states + z.evolutions;
+    for q in r + 1..count {
+        if rule_of(file, z, q) == s {
+            return q;
+        }
     }
-    rule_holds(file, z, starts, r, v)
+    count
+}
+
+// The next rule after each record.
+pub(crate) fn next_rules(file: &[u8], z: Sizes) -> [usize; TEXTS]
+    requires { ⌜ Laid (now file) z ⌝ }
+    ensures { λ t. ⌜ Linked (now (file .entry)) z t ⌝ }
+{
+    let count = z.states + z.evolutions;
+    let mut next = [0usize; TEXTS];
+    for r in 0..count {
+        next[r] = next_rule(file, z, r);
+    }
+    next
 }
 
 // Refusal 8: the first couple at which two rules hold. Up to it the table is filled with the moves, blank where no rule holds.
@@ -117,10 +134,11 @@ pub(crate) fn fill_moves(
     file: &[u8],
     z: Sizes,
     starts: &[usize; TEXTS],
+    next: &[usize; TEXTS],
     m: usize,
     table: &mut [u8],
 ) -> Found
-    requires { ⌜ Placed (now file) z (now starts) × ((r : ℕ) → r < records z → leadsTo (now file) z r < z .states) × (m ≤ mostSettings) × (z .states * m ≤ length (now table)) ⌝ }
+    requires { ⌜ Placed (now file) z (now starts) × Linked (now file) z (now next) × ((r : ℕ) → r < records z → leadsTo (now file) z r < z .states) × (m ≤ mostSettings) × (z .states * m ≤ length (now table)) ⌝ }
     ensures finds { λ t. ⌜ Finds (TwoRules (now (file .entry)) z m) t ⌝ }
     ensures fills { λ t. ⌜ Filled (z .states * m) (λ p x. t ≡ Found.Nothing → Noted (now (file .entry)) z m p x) (now (table .entry)) (now (table .exit)) ⌝ }
 {
@@ -130,17 +148,16 @@ pub(crate) fn fill_moves(
     'search: for s in 0..states {
         for v in 0..m {
             let mut to = BLANK_MOVE;
-            if rule_holds(file, z, starts, s, v) {
-                to = s as u8;
-            }
-            for e in states..count {
-                if fires(file, z, starts, s, v, e) {
+            let mut r = s;
+            while r < count {
+                if rule_holds(file, z, starts, r, v) {
                     if to != BLANK_MOVE {
                         found = Found::At(s * m + v);
                         break 'search;
                     }
-                    to = leads_to(file, z, e);
+                    to = leads_to(file, z, r);
                 }
+                r = next[r];
             }
             table[s * m + v] = to;
         }

@@ -1,0 +1,126 @@
+/*
+ * The sheet maker's entry points for C and C++.
+ *
+ * Words used below. A setting is a number below 2^inputs; input a weighs 1, b 2, and so on to h.
+ * The couple (state, setting) has the number state * 2^inputs + setting. A table gives each couple
+ * its move: the state that follows. A couple is at rest if its move is its own state. A run is a
+ * start, a setting at which the initial state rests, then settings that each differ from the one
+ * before in exactly one input. A buffer's needed part is what the answer uses of it.
+ *
+ * Every function takes any numbers and any contents. Each pointer must be valid for the number of
+ * elements that its length names, and a buffer that is written must not overlap any other argument.
+ * Elements beyond the needed part of a buffer never change.
+ *
+ * Each answer carries a number and a place; number 0 is success. The refusals:
+ *
+ *   No.  when                                                      place
+ *    1   file too long or too short, or its contents wrong         0
+ *    2   a size outside its range, or sizes that do not agree      0
+ *    3   a table, word, record, rank or reading buffer too short   needed elements of the first such
+ *    4   output bit beyond the outputs; state not below states     record (states, then evolutions), or couple
+ *    5   condition does not read                                   record
+ *    6   evolution to its own source                               record
+ *    7   same source and target as an earlier evolution            record
+ *    8   two rules hold                                            couple
+ *    9   no rule holds                                             couple
+ *   10   transient: the move's own couple is not at rest           couple
+ *   11   output word of an earlier state                           state
+ *   12   state never reached                                       state
+ *   13   no start                                                  0
+ *   14   asked couple not below states * 2^inputs                  0
+ *   15   asked couple not marked                                   0
+ *   16   run or plan buffer short                                  bytes needed
+ *   17   not a run                                                 index of the first fault, 0 if empty
+ *   18   log not sound, or its readings at 4294967295              0
+ *
+ * They are checked in this order, each over the whole input before the next; the place is the
+ * smallest that fits.
+ */
+#ifndef MUNDREFOL_H
+#define MUNDREFOL_H
+
+#include <stdbool.h>
+#include <stddef.h>
+#include <stdint.h>
+
+#ifdef __cplusplus
+extern "C" {
+#endif
+
+/* The answer of a table job: its number, and its place. */
+typedef struct { size_t number, place; } mundrefol_answer;
+
+/* The answer of reading a file: number and place, and the file's sizes, all zero on refusal. */
+typedef struct { size_t number, place, inputs, outputs, states, initial, evolutions; } mundrefol_contents;
+
+/* An evolution of the file: source and target state, place in the file and length of its condition. */
+typedef struct { uint8_t source, target; uint16_t at; uint8_t length; } mundrefol_evolution;
+
+/* A difference kept in the log: run, change, and whether it was the second reading after the change. */
+typedef struct { uint16_t run, change; bool second; } mundrefol_entry;
+
+/* The bench log: readings, differing readings, entries kept, and the first 32 differences. A fresh log is all zero. */
+typedef struct { uint32_t readings, differing, kept; mundrefol_entry entries[32]; } mundrefol_log;
+
+/* The answer of an update: number and place, and the kind: 0 equal, 1 stored, 2 full; 0 with a refusal. */
+typedef struct { size_t number, place, kind; } mundrefol_noted;
+
+/*
+ * Reads a specification file. On success the place is 0, the table holds the move of each of the
+ * states * 2^inputs couples, words the output word of each state, records each evolution.
+ * Refused by 1 to 13. After 1 to 3 nothing changes; after 4 to 13 the needed table bytes are 255,
+ * the needed words 65535 and the needed records zero.
+ */
+mundrefol_contents mundrefol_read(const uint8_t *file, size_t file_len, uint8_t *table, size_t table_len,
+                                  uint16_t *words, size_t words_len, mundrefol_evolution *records, size_t records_len);
+
+/*
+ * Marks the couples of a table that runs visit. On success the place is 0 and ranks holds for each
+ * couple the fewest changes of any run that visits it, 65535 if none does.
+ * Refused by 2, 3, 4, 10, 13. After 2 or 3 nothing changes; after 4, 10 or 13 the needed ranks are 65535.
+ */
+mundrefol_answer mundrefol_mark(size_t inputs, size_t states, size_t initial, const uint8_t *table, size_t table_len,
+                                uint16_t *ranks, size_t ranks_len);
+
+/*
+ * Writes the run to a couple, one byte a setting: as many changes as the couple's rank, and among
+ * those runs the one with the smallest resting couples before each change, compared from the last
+ * change back to the start. On success the place is the number of settings, rank + 1.
+ * Refused as marking is, then by 14, 15, 16. Ranks are left as marking leaves them; after a refusal
+ * the run buffer is unchanged.
+ */
+mundrefol_answer mundrefol_run_to(size_t inputs, size_t states, size_t initial, const uint8_t *table, size_t table_len,
+                                  uint16_t *ranks, size_t ranks_len, size_t couple, uint8_t *run, size_t run_len);
+
+/*
+ * Writes the plan: through the marked couples in rising number, the run to each one that no earlier
+ * run of the plan visits. A run is stored as its number of settings in two bytes, low byte first,
+ * then one byte a setting. On success the place is the number of bytes written.
+ * Refused as marking is, then by 16 with the bytes that the whole plan needs. Ranks are left as
+ * marking leaves them; after a refusal the plan buffer is unchanged.
+ */
+mundrefol_answer mundrefol_plan(size_t inputs, size_t states, size_t initial, const uint8_t *table, size_t table_len,
+                                uint16_t *ranks, size_t ranks_len, uint8_t *plan, size_t plan_len);
+
+/*
+ * Writes the readings expected on a run, one byte a setting: after the start one reading, after each
+ * change one after the first move and one after the second. On success the place is the number of
+ * readings, 2 * run_len - 1; so many readings are needed also where 17 refuses, an empty run needs none.
+ * Refused by 2 (also a run of over 65535 settings), 3, 4, 10, 17; nothing changes after a refusal.
+ */
+mundrefol_answer mundrefol_expected(size_t inputs, size_t states, size_t initial, const uint8_t *table, size_t table_len,
+                                    const uint16_t *words, size_t words_len, const uint8_t *run, size_t run_len,
+                                    uint16_t *readings, size_t readings_len);
+
+/*
+ * Notes one reading in the log: compares the expected with the seen word. Equal counts a reading;
+ * stored counts a differing one too and keeps the entry as given; full counts it without keeping it.
+ * Entries beyond the kept ones are not looked at. Refused by 18; the log is then unchanged.
+ */
+mundrefol_noted mundrefol_update(mundrefol_log *log, uint16_t run, uint16_t change, bool second, uint16_t expected, uint16_t seen);
+
+#ifdef __cplusplus
+}
+#endif
+
+#endif

@@ -1,0 +1,190 @@
+//! Times the library against the independent implementation on the same inputs, in one run.
+
+use mundrefol::generate::{largest_file, longest_table, Table};
+use mundrefol::plain::{self, lines, Jobs, COUPLES, EVOLUTIONS, FILE, STATES, UNMARKED};
+use mundrefol::{examples, Contents, Evolution};
+use std::hint::black_box;
+use std::time::{Duration, Instant};
+
+/// A job is repeated for at least this long, in rounds that take turns with its rival.
+const TIME: Duration = Duration::from_millis(400);
+const ROUNDS: usize = 8;
+
+fn main() {
+    println!("Best time of one call over {ROUNDS} rounds; buffers are not cleared between calls.");
+    println!(
+        "sheet: reading, plan and lines in memory; the lines are written by the same Rust code."
+    );
+    bench_file("lamp", &examples::lamp().bytes());
+    bench_file("gate", &examples::gate().bytes());
+    bench_file("largest", &largest_file(FILE).bytes());
+    let longest = longest_table();
+    head("longest runs", "", &longest);
+    bench_table(&longest);
+}
+
+/// The least time of one call of `job`, over as many calls as fit.
+fn best_of(job: &mut dyn FnMut(), time: Duration) -> Duration {
+    let begin = Instant::now();
+    let mut best = Duration::MAX;
+    while begin.elapsed() < time {
+        let start = Instant::now();
+        job();
+        let once = start.elapsed();
+        let calls = (Duration::from_micros(200).as_nanos() / once.as_nanos().max(1)) as u32;
+        let calls = calls.clamp(1, 10_000);
+        let start = Instant::now();
+        for _ in 0..calls {
+            job();
+        }
+        best = best.min(once).min(start.elapsed() / calls);
+    }
+    best
+}
+
+/// Prints the row of a job: library, independent Rust, ratio.
+fn row(job: &str, library: &mut dyn FnMut(), plain: &mut dyn FnMut()) {
+    let (mut ours, mut theirs) = (Duration::MAX, Duration::MAX);
+    for _ in 0..ROUNDS {
+        ours = ours.min(best_of(library, TIME / ROUNDS as u32));
+        theirs = theirs.min(best_of(plain, TIME / ROUNDS as u32));
+    }
+    let ratio = ours.as_secs_f64() / theirs.as_secs_f64();
+    println!("{job:<10}{:>16}{:>16}{ratio:>8.2}", shown(ours), shown(theirs));
+}
+
+fn shown(time: Duration) -> String {
+    format!("{:.3} us", time.as_secs_f64() * 1e6)
+}
+
+/// Buffers for reading a file.
+struct Buffers {
+    table: Vec<u8>,
+    words: Vec<u16>,
+    records: Vec<Evolution>,
+}
+
+impl Buffers {
+    fn new() -> Buffers {
+        Buffers {
+            table: vec![0; COUPLES],
+            words: vec![0; STATES],
+            records: vec![Evolution::default(); EVOLUTIONS],
+        }
+    }
+}
+
+/// Prints what an input is, and the head of its rows.
+fn head(name: &str, size: &str, table: &Table) {
+    let Table { inputs, states, initial, ref moves } = *table;
+    let mut ranks = vec![0; table.couples()];
+    let plan = plain::plan(inputs, states, initial, moves, &mut ranks, &mut []).place;
+    let highest = ranks.iter().filter(|&&rank| rank != UNMARKED).max().expect("a start is marked");
+    println!("\n{name}: {inputs} inputs, {states} states, {size}highest rank {highest}, plan of {plan} bytes");
+    println!("{:<10}{:>16}{:>16}{:>8}", "job", "library", "Rust", "ratio");
+}
+
+fn bench_file(name: &str, file: &[u8]) {
+    let mut ours = Buffers::new();
+    let mut theirs = Buffers::new();
+    let contents = plain::read(file, &mut theirs.table, &mut theirs.words, &mut theirs.records);
+    assert_eq!(contents.number, 0);
+    let Contents { inputs, states, initial, evolutions, .. } = contents;
+    let moves = theirs.table[..states << inputs].to_vec();
+    let table = Table { inputs, states, initial, moves };
+    head(name, &format!("{evolutions} evolutions, {} bytes, ", file.len()), &table);
+    let mut library = || {
+        black_box(mundrefol::read(
+            black_box(file),
+            &mut ours.table,
+            &mut ours.words,
+            &mut ours.records,
+        ));
+    };
+    let mut independent = || {
+        black_box(plain::read(
+            black_box(file),
+            &mut theirs.table,
+            &mut theirs.words,
+            &mut theirs.records,
+        ));
+    };
+    row("reading", &mut library, &mut independent);
+    bench_table(&table);
+    let library = Jobs { read: mundrefol::read, plan: mundrefol::plan };
+    row("sheet", &mut || drop(black_box(lines(library, black_box(file)))), &mut || {
+        drop(black_box(plain::sheet(black_box(file))))
+    });
+}
+
+fn bench_table(table: &Table) {
+    let Table { inputs, states, initial, ref moves } = *table;
+    let (mut ours, mut theirs) = (vec![0; table.couples()], vec![0; table.couples()]);
+    let mut library = || {
+        black_box(mundrefol::mark(inputs, states, initial, black_box(moves), &mut ours));
+    };
+    let mut independent = || {
+        black_box(plain::mark(inputs, states, initial, black_box(moves), &mut theirs));
+    };
+    row("marking", &mut library, &mut independent);
+    let ranked = (0..theirs.len()).filter(|&couple| theirs[couple] != UNMARKED);
+    let farthest = ranked.max_by_key(|&couple| theirs[couple]).expect("some couple is marked");
+    bench_plan(table);
+    let run = bench_run(table, farthest);
+    bench_readings(table, &run);
+}
+
+fn bench_plan(table: &Table) {
+    let Table { inputs, states, initial, ref moves } = *table;
+    let mut ranks = vec![0; table.couples()];
+    let needed = plain::plan(inputs, states, initial, moves, &mut ranks, &mut []).place;
+    let (mut ours, mut theirs) = (vec![0; needed], vec![0; needed]);
+    let (mut our_ranks, mut their_ranks) = (ranks.clone(), ranks);
+    let mut library = || {
+        let moves = black_box(moves);
+        black_box(mundrefol::plan(inputs, states, initial, moves, &mut our_ranks, &mut ours));
+    };
+    let mut independent = || {
+        let moves = black_box(moves);
+        black_box(plain::plan(inputs, states, initial, moves, &mut their_ranks, &mut theirs));
+    };
+    row("plan", &mut library, &mut independent);
+}
+
+/// The run to the couple of the highest rank.
+fn bench_run(table: &Table, couple: usize) -> Vec<u8> {
+    let Table { inputs, states, initial, ref moves } = *table;
+    let (mut our_ranks, mut ours) = (vec![0; table.couples()], vec![0; COUPLES]);
+    let (mut their_ranks, mut theirs) = (our_ranks.clone(), ours.clone());
+    let needed =
+        plain::run_to(inputs, states, initial, moves, &mut their_ranks, couple, &mut theirs).place;
+    let mut library = || {
+        let moves = black_box(moves);
+        let ranks = &mut our_ranks;
+        black_box(mundrefol::run_to(inputs, states, initial, moves, ranks, couple, &mut ours));
+    };
+    let mut independent = || {
+        let moves = black_box(moves);
+        let ranks = &mut their_ranks;
+        black_box(plain::run_to(inputs, states, initial, moves, ranks, couple, &mut theirs));
+    };
+    row("run", &mut library, &mut independent);
+    theirs.truncate(needed);
+    theirs
+}
+
+fn bench_readings(table: &Table, run: &[u8]) {
+    let Table { inputs, states, initial, ref moves } = *table;
+    let words: Vec<u16> = (0..states as u16).collect();
+    let mut ours = vec![0; 2 * run.len() - 1];
+    let mut theirs = ours.clone();
+    let mut library = || {
+        let (moves, run) = (black_box(moves), black_box(run));
+        black_box(mundrefol::expected(inputs, states, initial, moves, &words, run, &mut ours));
+    };
+    let mut independent = || {
+        let (moves, run) = (black_box(moves), black_box(run));
+        black_box(plain::expected(inputs, states, initial, moves, &words, run, &mut theirs));
+    };
+    row("readings", &mut library, &mut independent);
+}

@@ -1,0 +1,142 @@
+//! The specification files of the folder `examples/`, as readable descriptions.
+
+use crate::file::{File, Leaving, State};
+
+/// An example: its name in the folder, and its bytes.
+pub struct Example {
+    pub name: &'static str,
+    pub bytes: Vec<u8>,
+}
+
+/// Every example of the folder, in the order of their names.
+pub fn all() -> Vec<Example> {
+    let example = |name, bytes| Example { name, bytes };
+    vec![
+        example("gate", gate().bytes()),
+        example("lamp", lamp().bytes()),
+        example("refused-01-wrong-mark", wrong_mark()),
+        example("refused-02-nine-inputs", File { inputs: 9, ..lamp() }.bytes()),
+        example("refused-04-output-bit", with_word(lamp(), 1, 3).bytes()),
+        example("refused-05-does-not-read", with_condition(lamp(), 3, "!a+").bytes()),
+        example("refused-06-own-source", own_source().bytes()),
+        example("refused-07-same-states", same_states().bytes()),
+        example("refused-08-two-rules", with_condition(lamp(), 0, "1").bytes()),
+        example("refused-09-no-rule", with_condition(lamp(), 2, "0").bytes()),
+        example("refused-10-transient", transient().bytes()),
+        example("refused-11-same-word", with_word(gate(), 2, 1).bytes()),
+        example("refused-12-never-reached", never_reached().bytes()),
+        example("refused-13-no-start", no_start().bytes()),
+        example("refused-16-long-plan", counter(8, 32).bytes()),
+        example("table-iv", table_iv().bytes()),
+    ]
+}
+
+/// Document 01's lamp.
+pub fn lamp() -> File {
+    File::new(1, 1, &[(0, "!a"), (1, "a")], &[(0, 1, "a"), (1, 0, "!a")])
+}
+
+/// Document 01's gate: source document 002, table 1; its v, r, o, c are a, b, c, d.
+pub fn gate() -> File {
+    File::new(
+        4,
+        2,
+        &[(0, "c.(b+a)+d.!b"), (1, "!d.!b.!a"), (2, "!c")],
+        &[
+            (0, 1, "!d.!b.!a"),
+            (0, 2, "!c.(b+!d.a)"),
+            (1, 0, "c.(b+a)+d.!b"),
+            (1, 2, "!c.(b+!d.a)"),
+            (2, 0, "c.(d+b+a)"),
+            (2, 1, "!d.c.!b.!a"),
+        ],
+    )
+}
+
+/// Source document 001, table IV: s1 to s5 are states 0 to 4. The words are the states' numbers.
+pub fn table_iv() -> File {
+    File::new(
+        3,
+        3,
+        &[(0, "a.(b+c)"), (1, "!b.!c"), (2, "!a"), (3, "!c"), (4, "!b")],
+        &[
+            (0, 1, "a.!b.!c"),
+            (0, 2, "!a"),
+            (1, 0, "a.b.c"),
+            (1, 2, "!a.b.c"),
+            (1, 3, "b.!c"),
+            (1, 4, "!b.c"),
+            (2, 0, "a.(b+c)"),
+            (2, 1, "a.!b.!c"),
+            (3, 0, "a.c"),
+            (3, 2, "!a.c"),
+            (4, 0, "a.b"),
+            (4, 2, "!a.b"),
+        ],
+    )
+}
+
+/// A ring of states that input a steps through at each of its changes; the other inputs do nothing.
+pub fn counter(inputs: u8, states: u8) -> File {
+    let on = |state: u8| if state.is_multiple_of(2) { "!a" } else { "a" };
+    let state = |number: u8| State { word: number.into(), rest: on(number).to_string() };
+    let leaving = |source: u8| Leaving {
+        source,
+        target: (source + 1) % states,
+        condition: on(source + 1).to_string(),
+    };
+    File {
+        inputs,
+        outputs: 16,
+        initial: 0,
+        states: (0..states).map(state).collect(),
+        evolutions: (0..states).map(leaving).collect(),
+    }
+}
+
+fn with_word(mut file: File, state: usize, word: u16) -> File {
+    file.states[state].word = word;
+    file
+}
+
+fn with_condition(mut file: File, record: usize, text: &str) -> File {
+    *file.conditions_mut().nth(record).expect("the file has this record") = text.to_string();
+    file
+}
+
+/// The lamp under the mark of another kind of file.
+fn wrong_mark() -> Vec<u8> {
+    let mut bytes = lamp().bytes();
+    bytes[3] = b'9';
+    bytes
+}
+
+/// The lamp with an evolution from state 1 to itself.
+fn own_source() -> File {
+    File::new(1, 1, &[(0, "!a"), (1, "0")], &[(0, 1, "a"), (1, 0, "!a"), (1, 1, "a")])
+}
+
+/// The lamp with its way to state 1 in two evolutions.
+fn same_states() -> File {
+    File::new(1, 1, &[(0, "!a"), (1, "a")], &[(0, 1, "a"), (1, 0, "!a"), (0, 1, "a")])
+}
+
+/// Three lamps in a row: with a on, state 0 moves to 1 and 1 at once to 2.
+fn transient() -> File {
+    File::new(1, 2, &[(0, "!a"), (1, "!a"), (2, "a")], &[(0, 1, "a"), (1, 2, "a"), (2, 0, "!a")])
+}
+
+/// The lamp with a third state that nothing moves to.
+fn never_reached() -> File {
+    File::new(1, 2, &[(0, "!a"), (1, "a"), (2, "a")], &[(0, 1, "a"), (1, 0, "!a"), (2, 0, "!a")])
+}
+
+/// A lamp whose initial state rests at no setting.
+fn no_start() -> File {
+    File::new(
+        1,
+        2,
+        &[(0, "0"), (1, "a"), (2, "!a")],
+        &[(0, 1, "a"), (0, 2, "!a"), (1, 2, "!a"), (2, 1, "a")],
+    )
+}

@@ -1,0 +1,287 @@
+//! The sheet maker from Rust: safe wrappers over the entry points of `include/mundrefol.h`.
+//!
+//! Beside them stands [`plain`], an implementation of the same jobs written from document 01 alone,
+//! with the same signatures; the tests compare the two, answers and buffers, element by element.
+
+pub mod examples;
+pub mod file;
+pub mod generate;
+pub mod plain;
+
+use plain::ENTRIES;
+
+/// The answer of a table job: number 0 is success, any other a refusal.
+#[repr(C)]
+#[derive(Clone, Copy, Debug, PartialEq, Eq)]
+pub struct Answer {
+    pub number: usize,
+    pub place: usize,
+}
+
+/// The answer of reading a file: number and place, and the file's sizes, all zero on refusal.
+#[repr(C)]
+#[derive(Clone, Copy, Debug, Default, PartialEq, Eq)]
+pub struct Contents {
+    pub number: usize,
+    pub place: usize,
+    pub inputs: usize,
+    pub outputs: usize,
+    pub states: usize,
+    pub initial: usize,
+    pub evolutions: usize,
+}
+
+/// An evolution of the file: source and target state, place in the file and length of its condition.
+#[repr(C)]
+#[derive(Clone, Copy, Debug, Default, PartialEq, Eq)]
+pub struct Evolution {
+    pub source: u8,
+    pub target: u8,
+    pub at: u16,
+    pub length: u8,
+}
+
+/// A difference kept in the log: run, change, and whether it was the second reading after the change.
+#[repr(C)]
+#[derive(Clone, Copy, Debug, Default, PartialEq, Eq)]
+pub struct Entry {
+    pub run: u16,
+    pub change: u16,
+    pub second: bool,
+}
+
+/// The bench log: readings, differing readings, entries kept, and the first differences.
+#[repr(C)]
+#[derive(Clone, Copy, Debug, Default, PartialEq, Eq)]
+pub struct Log {
+    pub readings: u32,
+    pub differing: u32,
+    pub kept: u32,
+    pub entries: [Entry; ENTRIES],
+}
+
+/// The answer of an update: kind 0 equal, 1 stored, 2 full; 0 with a refusal.
+#[repr(C)]
+#[derive(Clone, Copy, Debug, PartialEq, Eq)]
+pub struct Noted {
+    pub number: usize,
+    pub place: usize,
+    pub kind: usize,
+}
+
+/// The layouts of the header.
+const _: () = {
+    assert!(size_of::<Answer>() == 2 * size_of::<usize>());
+    assert!(size_of::<Contents>() == 7 * size_of::<usize>());
+    assert!(size_of::<Evolution>() == 6);
+    assert!(size_of::<Entry>() == 6);
+    assert!(size_of::<Log>() == 204);
+    assert!(size_of::<Noted>() == 3 * size_of::<usize>());
+};
+
+mod entry {
+    use super::{Answer, Contents, Evolution, Log, Noted};
+
+    extern "C" {
+        pub fn mundrefol_read(
+            file: *const u8,
+            file_len: usize,
+            table: *mut u8,
+            table_len: usize,
+            words: *mut u16,
+            words_len: usize,
+            records: *mut Evolution,
+            records_len: usize,
+        ) -> Contents;
+        pub fn mundrefol_mark(
+            inputs: usize,
+            states: usize,
+            initial: usize,
+            table: *const u8,
+            table_len: usize,
+            ranks: *mut u16,
+            ranks_len: usize,
+        ) -> Answer;
+        pub fn mundrefol_run_to(
+            inputs: usize,
+            states: usize,
+            initial: usize,
+            table: *const u8,
+            table_len: usize,
+            ranks: *mut u16,
+            ranks_len: usize,
+            couple: usize,
+            run: *mut u8,
+            run_len: usize,
+        ) -> Answer;
+        pub fn mundrefol_plan(
+            inputs: usize,
+            states: usize,
+            initial: usize,
+            table: *const u8,
+            table_len: usize,
+            ranks: *mut u16,
+            ranks_len: usize,
+            plan: *mut u8,
+            plan_len: usize,
+        ) -> Answer;
+        pub fn mundrefol_expected(
+            inputs: usize,
+            states: usize,
+            initial: usize,
+            table: *const u8,
+            table_len: usize,
+            words: *const u16,
+            words_len: usize,
+            run: *const u8,
+            run_len: usize,
+            readings: *mut u16,
+            readings_len: usize,
+        ) -> Answer;
+        pub fn mundrefol_update(
+            log: *mut Log,
+            run: u16,
+            change: u16,
+            second: bool,
+            expected: u16,
+            seen: u16,
+        ) -> Noted;
+    }
+}
+
+/// Reads a specification file into a table, the states' output words and the evolutions' records.
+pub fn read(
+    file: &[u8],
+    table: &mut [u8],
+    words: &mut [u16],
+    records: &mut [Evolution],
+) -> Contents {
+    // SAFETY: each pointer and length come from one slice, and the borrows keep them apart.
+    unsafe {
+        entry::mundrefol_read(
+            file.as_ptr(),
+            file.len(),
+            table.as_mut_ptr(),
+            table.len(),
+            words.as_mut_ptr(),
+            words.len(),
+            records.as_mut_ptr(),
+            records.len(),
+        )
+    }
+}
+
+/// Marks the couples that runs visit: their ranks, 65,535 for the others.
+pub fn mark(
+    inputs: usize,
+    states: usize,
+    initial: usize,
+    table: &[u8],
+    ranks: &mut [u16],
+) -> Answer {
+    // SAFETY: each pointer and length come from one slice, and the borrows keep them apart.
+    unsafe {
+        entry::mundrefol_mark(
+            inputs,
+            states,
+            initial,
+            table.as_ptr(),
+            table.len(),
+            ranks.as_mut_ptr(),
+            ranks.len(),
+        )
+    }
+}
+
+/// Writes the run to a couple; the place is its number of settings.
+pub fn run_to(
+    inputs: usize,
+    states: usize,
+    initial: usize,
+    table: &[u8],
+    ranks: &mut [u16],
+    couple: usize,
+    run: &mut [u8],
+) -> Answer {
+    // SAFETY: each pointer and length come from one slice, and the borrows keep them apart.
+    unsafe {
+        entry::mundrefol_run_to(
+            inputs,
+            states,
+            initial,
+            table.as_ptr(),
+            table.len(),
+            ranks.as_mut_ptr(),
+            ranks.len(),
+            couple,
+            run.as_mut_ptr(),
+            run.len(),
+        )
+    }
+}
+
+/// Writes the plan; the place is its number of bytes.
+pub fn plan(
+    inputs: usize,
+    states: usize,
+    initial: usize,
+    table: &[u8],
+    ranks: &mut [u16],
+    plan: &mut [u8],
+) -> Answer {
+    // SAFETY: each pointer and length come from one slice, and the borrows keep them apart.
+    unsafe {
+        entry::mundrefol_plan(
+            inputs,
+            states,
+            initial,
+            table.as_ptr(),
+            table.len(),
+            ranks.as_mut_ptr(),
+            ranks.len(),
+            plan.as_mut_ptr(),
+            plan.len(),
+        )
+    }
+}
+
+/// Writes the readings expected on a run; the place is their number.
+pub fn expected(
+    inputs: usize,
+    states: usize,
+    initial: usize,
+    table: &[u8],
+    words: &[u16],
+    run: &[u8],
+    readings: &mut [u16],
+) -> Answer {
+    // SAFETY: each pointer and length come from one slice, and the borrows keep them apart.
+    unsafe {
+        entry::mundrefol_expected(
+            inputs,
+            states,
+            initial,
+            table.as_ptr(),
+            table.len(),
+            words.as_ptr(),
+            words.len(),
+            run.as_ptr(),
+            run.len(),
+            readings.as_mut_ptr(),
+            readings.len(),
+        )
+    }
+}
+
+/// Notes one reading in the log.
+pub fn update(
+    log: &mut Log,
+    run: u16,
+    change: u16,
+    second: bool,
+    expected: u16,
+    seen: u16,
+) -> Noted {
+    // SAFETY: the log is one whole record, lent for the call.
+    unsafe { entry::mundrefol_update(log, run, change, second, expected, seen) }
+}

@@ -1,0 +1,97 @@
+//! A table lent to a job: its moves, and the checks that every table job asks.
+
+use super::{check_lengths, refuse_at, INPUTS, STATES};
+use crate::Answer;
+
+/// Inputs, states and initial state within their ranges, and the move of each couple.
+#[derive(Clone, Copy)]
+pub struct Machine<'a> {
+    pub inputs: usize,
+    pub states: usize,
+    pub initial: usize,
+    pub moves: &'a [u8],
+}
+
+/// Whether inputs, states and initial state are in their ranges.
+pub fn sizes_fit(inputs: usize, states: usize, initial: usize) -> bool {
+    (1..=INPUTS).contains(&inputs) && (1..=STATES).contains(&states) && initial < states
+}
+
+impl<'a> Machine<'a> {
+    /// Checks 2 and 3: the sizes and `more`, then the table and the buffers that `others` names by
+    /// length and need, in this order.
+    pub fn new(
+        (inputs, states, initial): (usize, usize, usize),
+        table: &'a [u8],
+        more: bool,
+        others: impl Fn(usize) -> Vec<(usize, usize)>,
+    ) -> Result<Self, Answer> {
+        if !sizes_fit(inputs, states, initial) || !more {
+            return Err(Answer::refused(2, 0));
+        }
+        let couples = states << inputs;
+        check_lengths(&[(table.len(), couples)])?;
+        check_lengths(&others(couples))?;
+        Ok(Machine { inputs, states, initial, moves: &table[..couples] })
+    }
+
+    /// Number of settings.
+    pub fn settings(&self) -> usize {
+        1 << self.inputs
+    }
+
+    /// Number of couples.
+    pub fn couples(&self) -> usize {
+        self.states << self.inputs
+    }
+
+    /// Number of the couple of a state and a setting.
+    pub fn couple(&self, state: usize, setting: usize) -> usize {
+        state << self.inputs | setting
+    }
+
+    /// State of a couple.
+    pub fn state(&self, couple: usize) -> usize {
+        couple >> self.inputs
+    }
+
+    /// Setting of a couple.
+    pub fn setting(&self, couple: usize) -> usize {
+        couple & (self.settings() - 1)
+    }
+
+    /// State that follows a couple.
+    pub fn to(&self, couple: usize) -> usize {
+        usize::from(self.moves[couple])
+    }
+
+    /// Couple that a couple moves to, at the same setting.
+    pub fn moved(&self, couple: usize) -> usize {
+        self.couple(self.to(couple), self.setting(couple))
+    }
+
+    /// Whether a couple is at rest.
+    pub fn rests(&self, couple: usize) -> bool {
+        self.to(couple) == self.state(couple)
+    }
+
+    /// Whether a run may start at a setting.
+    pub fn starts(&self, setting: usize) -> bool {
+        self.rests(self.couple(self.initial, setting))
+    }
+
+    /// Check 4: every move is a state.
+    pub fn check_states(&self) -> Result<(), Answer> {
+        refuse_at(4, (0..self.couples()).find(|&couple| self.to(couple) >= self.states))
+    }
+
+    /// Check 10: no couple moves to one that is not at rest.
+    pub fn check_transients(&self) -> Result<(), Answer> {
+        refuse_at(10, (0..self.couples()).find(|&couple| !self.rests(self.moved(couple))))
+    }
+
+    /// Check 13: some setting is a start.
+    pub fn check_start(&self) -> Result<(), Answer> {
+        refuse_at(13, (!(0..self.settings()).any(|setting| self.starts(setting))).then_some(0))
+    }
+}

@@ -1,0 +1,74 @@
+//! Expected readings on a run.
+
+use super::machine::Machine;
+use super::{refuse_at, SETTINGS_OF_A_RUN};
+use crate::Answer;
+
+/// Writes the readings expected on a run; the place is their number.
+pub fn expected(
+    inputs: usize,
+    states: usize,
+    initial: usize,
+    table: &[u8],
+    words: &[u16],
+    run: &[u8],
+    readings: &mut [u16],
+) -> Answer {
+    let lengths = (words.len(), readings.len());
+    match checked((inputs, states, initial), table, lengths, run) {
+        Ok(machine) => Answer::done(write(&machine, words, run, readings)),
+        Err(answer) => answer,
+    }
+}
+
+/// Readings that a number of settings gives.
+fn needed(settings: usize) -> usize {
+    (2 * settings).saturating_sub(1)
+}
+
+/// Checks 2, 3, 4, 10 and 17; the lengths are those of words and readings.
+fn checked<'a>(
+    sizes: (usize, usize, usize),
+    table: &'a [u8],
+    lengths: (usize, usize),
+    run: &[u8],
+) -> Result<Machine<'a>, Answer> {
+    let short_enough = run.len() <= SETTINGS_OF_A_RUN;
+    let machine = Machine::new(sizes, table, short_enough, |_| {
+        vec![(lengths.0, sizes.1), (lengths.1, needed(run.len()))]
+    })?;
+    machine.check_states()?;
+    machine.check_transients()?;
+    refuse_at(17, first_fault(&machine, run))?;
+    Ok(machine)
+}
+
+/// Check 17: the index of the first setting that keeps the settings from being a run.
+fn first_fault(machine: &Machine, run: &[u8]) -> Option<usize> {
+    if run.is_empty() {
+        return Some(0);
+    }
+    (0..run.len()).find(|&index| {
+        let setting = usize::from(run[index]);
+        let follows = match index.checked_sub(1) {
+            None => setting < machine.settings() && machine.starts(setting),
+            Some(before) => (run[before] ^ run[index]).count_ones() == 1,
+        };
+        setting >= machine.settings() || !follows
+    })
+}
+
+/// Writes the readings of a run and answers their number.
+fn write(machine: &Machine, words: &[u16], run: &[u8], readings: &mut [u16]) -> usize {
+    let mut state = machine.initial;
+    let mut pass = |setting: u8| {
+        state = machine.to(machine.couple(state, usize::from(setting)));
+        words[state]
+    };
+    readings[0] = pass(run[0]);
+    for (pair, &setting) in readings[1..].chunks_exact_mut(2).zip(&run[1..]) {
+        pair[0] = pass(setting);
+        pair[1] = pass(setting);
+    }
+    needed(run.len())
+}

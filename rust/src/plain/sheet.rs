@@ -1,0 +1,87 @@
+//! The text of the sheet.
+
+use super::{COUPLES, EVOLUTIONS, PLAN, STATES, UNMARKED};
+use crate::{Answer, Contents, Evolution};
+use std::io::Write;
+
+/// Reading a file.
+pub type Read = fn(&[u8], &mut [u8], &mut [u16], &mut [Evolution]) -> Contents;
+/// Writing the plan.
+pub type Plan = fn(usize, usize, usize, &[u8], &mut [u16], &mut [u8]) -> Answer;
+
+/// The two jobs that a sheet is made of.
+#[derive(Clone, Copy)]
+pub struct Jobs {
+    pub read: Read,
+    pub plan: Plan,
+}
+
+/// The sheet of a specification file, or the line of its refusal.
+pub fn sheet(file: &[u8]) -> Vec<u8> {
+    lines(Jobs { read: super::read, plan: super::plan }, file)
+}
+
+/// The sheet of a specification file by the given jobs.
+pub fn lines(jobs: Jobs, file: &[u8]) -> Vec<u8> {
+    let mut text = Vec::new();
+    let mut table = [0; COUPLES];
+    let contents =
+        (jobs.read)(file, &mut table, &mut [0; STATES], &mut [Evolution::default(); EVOLUTIONS]);
+    if contents.number != 0 {
+        write_refusal(&mut text, contents.number, contents.place);
+        return text;
+    }
+    let (inputs, states) = (contents.inputs, contents.states);
+    let mut ranks = [UNMARKED; COUPLES];
+    let mut plan = vec![0; PLAN];
+    let answer = (jobs.plan)(inputs, states, contents.initial, &table, &mut ranks, &mut plan);
+    if answer.number != 0 {
+        write_refusal(&mut text, answer.number, answer.place);
+        return text;
+    }
+    write_ranks(&mut text, inputs, states, &ranks[..states << inputs]);
+    write_runs(&mut text, &plan[..answer.place]);
+    text
+}
+
+/// Adds one line: the word, then the numbers, parted by blanks.
+fn write_line(text: &mut Vec<u8>, word: &str, numbers: &[usize]) {
+    text.extend_from_slice(word.as_bytes());
+    for number in numbers {
+        write!(text, " {number}").expect("a vector takes every byte");
+    }
+    text.push(b'\n');
+}
+
+fn write_refusal(text: &mut Vec<u8>, number: usize, place: usize) {
+    write_line(text, "REFUSED", &[number, place]);
+}
+
+fn write_ranks(text: &mut Vec<u8>, inputs: usize, states: usize, ranks: &[u16]) {
+    let couples = states << inputs;
+    let marked = ranks.iter().filter(|&&rank| rank != UNMARKED).count();
+    writeln!(text, "INPUTS {inputs} STATES {states} COUPLES {couples} MARKED {marked}")
+        .expect("a vector takes every byte");
+    let mut counts: Vec<usize> = Vec::new();
+    for rank in ranks.iter().filter(|&&rank| rank != UNMARKED).map(|&rank| usize::from(rank)) {
+        counts.resize(counts.len().max(rank + 1), 0);
+        counts[rank] += 1;
+    }
+    for (rank, &count) in counts.iter().enumerate() {
+        write_line(text, "RANK", &[rank, count]);
+    }
+}
+
+fn write_runs(text: &mut Vec<u8>, mut plan: &[u8]) {
+    let mut number = 1;
+    while let [low, high, rest @ ..] = plan {
+        let (settings, after) = rest.split_at(usize::from(u16::from_le_bytes([*low, *high])));
+        write!(text, "RUN {number}").expect("a vector takes every byte");
+        for setting in settings {
+            write!(text, " {setting}").expect("a vector takes every byte");
+        }
+        text.push(b'\n');
+        number += 1;
+        plan = after;
+    }
+}

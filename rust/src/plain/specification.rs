@@ -1,0 +1,276 @@
+//! Reading a specification file: checks 1 to 13, its table, words and records.
+
+use super::condition::holds;
+use super::machine::{sizes_fit, Machine};
+use super::{check_lengths, refuse_at, EVOLUTIONS, FILE, NO_MOVE, NO_WORD, OUTPUTS, STATES};
+use crate::{Answer, Contents, Evolution};
+use std::ops::Range;
+
+const MARK: &[u8] = b"SEQ1";
+const BODIES: usize = 4;
+const ENTRY_BYTES: usize = 5;
+const FIRST_BODY: usize = MARK.len() + 1 + BODIES * ENTRY_BYTES;
+const SIZES_BYTES: usize = 4;
+const RECORD_BYTES: usize = 3;
+
+/// Reads a specification file into a table, the states' output words and the evolutions' records.
+pub fn read(
+    file: &[u8],
+    table: &mut [u8],
+    words: &mut [u16],
+    records: &mut [Evolution],
+) -> Contents {
+    let lengths = (table.len(), words.len(), records.len());
+    let layout = match Layout::of(file, lengths) {
+        Ok(layout) => layout,
+        Err(answer) => return refused(answer),
+    };
+    let table = &mut table[..layout.states << layout.inputs];
+    let words = &mut words[..layout.states];
+    let records = &mut records[..layout.evolutions];
+    if let Err(answer) = layout.fill(table, words, records) {
+        table.fill(NO_MOVE);
+        words.fill(NO_WORD);
+        records.fill(Evolution::default());
+        return refused(answer);
+    }
+    Contents {
+        number: 0,
+        place: 0,
+        inputs: layout.inputs,
+        outputs: layout.outputs,
+        states: layout.states,
+        initial: layout.initial,
+        evolutions: layout.evolutions,
+    }
+}
+
+fn refused(answer: Answer) -> Contents {
+    Contents { number: answer.number, place: answer.place, ..Contents::default() }
+}
+
+/// Two bytes, low byte first.
+fn number_at(bytes: &[u8], at: usize) -> usize {
+    usize::from(u16::from_le_bytes([bytes[at], bytes[at + 1]]))
+}
+
+/// Check 1: the places of the four bodies, or nothing if the contents are wrong.
+fn bodies(file: &[u8]) -> Option<[Range<usize>; BODIES]> {
+    let size_fits = (FIRST_BODY..=FILE).contains(&file.len());
+    if !size_fits || !file.starts_with(MARK) || usize::from(file[MARK.len()]) != BODIES {
+        return None;
+    }
+    let mut bodies = [const { 0..0 }; BODIES];
+    let mut end = FIRST_BODY;
+    for (body, place) in bodies.iter_mut().enumerate() {
+        let entry = MARK.len() + 1 + body * ENTRY_BYTES;
+        let (offset, length) = (number_at(file, entry + 1), number_at(file, entry + 3));
+        if usize::from(file[entry]) != body + 1 || offset != end {
+            return None;
+        }
+        end += length;
+        *place = offset..end;
+    }
+    let multiples = bodies[1].len() % RECORD_BYTES == 0 && bodies[2].len() % RECORD_BYTES == 0;
+    (end == file.len() && bodies[0].len() == SIZES_BYTES && multiples).then_some(bodies)
+}
+
+/// A file that passes checks 1 to 3: its sizes, and where its bodies begin.
+struct Layout<'a> {
+    file: &'a [u8],
+    inputs: usize,
+    outputs: usize,
+    states: usize,
+    initial: usize,
+    evolutions: usize,
+    state_records: usize,
+    evolution_records: usize,
+    texts: usize,
+}
+
+impl<'a> Layout<'a> {
+    /// Checks 1 to 3; the lengths are those of table, words and records.
+    fn of(file: &'a [u8], lengths: (usize, usize, usize)) -> Result<Self, Answer> {
+        let [sizes, states, evolutions, texts] = bodies(file).ok_or(Answer::refused(1, 0))?;
+        let size = |index: usize| usize::from(file[sizes.start + index]);
+        let layout = Layout {
+            file,
+            inputs: size(0),
+            outputs: size(1),
+            states: size(2),
+            initial: size(3),
+            evolutions: evolutions.len() / RECORD_BYTES,
+            state_records: states.start,
+            evolution_records: evolutions.start,
+            texts: texts.start,
+        };
+        if !layout.sizes_agree(states.len() / RECORD_BYTES, texts.len()) {
+            return Err(Answer::refused(2, 0));
+        }
+        check_lengths(&[
+            (lengths.0, layout.states << layout.inputs),
+            (lengths.1, layout.states),
+            (lengths.2, layout.evolutions),
+        ])?;
+        Ok(layout)
+    }
+
+    /// Check 2.
+    fn sizes_agree(&self, state_records: usize, texts: usize) -> bool {
+        sizes_fit(self.inputs, self.states, self.initial)
+            && (1..=OUTPUTS).contains(&self.outputs)
+            && state_records == self.states
+            && self.evolutions <= EVOLUTIONS
+            && (0..self.records()).map(|record| self.text_length(record)).sum::<usize>() == texts
+    }
+
+    /// Number of records, states first.
+    fn records(&self) -> usize {
+        self.states + self.evolutions
+    }
+
+    /// The three bytes of a record.
+    fn record(&self, record: usize) -> &'a [u8] {
+        let start = if record < self.states {
+            self.state_records + RECORD_BYTES * record
+        } else {
+            self.evolution_records + RECORD_BYTES * (record - self.states)
+        };
+        &self.file[start..start + RECORD_BYTES]
+    }
+
+    /// Length of a record's condition.
+    fn text_length(&self, record: usize) -> usize {
+        usize::from(self.record(record)[2])
+    }
+
+    /// Where each record's condition stands in the file.
+    fn text_places(&self) -> Vec<Range<usize>> {
+        let mut end = self.texts;
+        let place = |record| {
+            let start = end;
+            end += self.text_length(record);
+            start..end
+        };
+        (0..self.records()).map(place).collect()
+    }
+
+    /// Checks 4 to 13; the buffers have exactly the needed lengths and are filled on the way.
+    fn fill(
+        &self,
+        table: &mut [u8],
+        words: &mut [u16],
+        records: &mut [Evolution],
+    ) -> Result<(), Answer> {
+        let texts = self.text_places();
+        self.copy_records(&texts, words, records);
+        self.check_records(words, records)?;
+        refuse_at(5, texts.iter().position(|text| self.holds(text, 0).is_none()))?;
+        self.check_evolutions(records)?;
+        self.fill_table(&texts, records, table)?;
+        let machine = Machine {
+            inputs: self.inputs,
+            states: self.states,
+            initial: self.initial,
+            moves: table,
+        };
+        machine.check_transients()?;
+        refuse_at(11, (0..words.len()).find(|&state| words[..state].contains(&words[state])))?;
+        refuse_at(12, first_unreached(&machine))?;
+        machine.check_start()
+    }
+
+    fn copy_records(&self, texts: &[Range<usize>], words: &mut [u16], records: &mut [Evolution]) {
+        for (state, word) in words.iter_mut().enumerate() {
+            let bytes = self.record(state);
+            *word = u16::from_le_bytes([bytes[0], bytes[1]]);
+        }
+        for (index, evolution) in records.iter_mut().enumerate() {
+            let bytes = self.record(self.states + index);
+            let at = texts[self.states + index].start as u16;
+            *evolution = Evolution { source: bytes[0], target: bytes[1], at, length: bytes[2] };
+        }
+    }
+
+    /// Check 4: words within the outputs, then states within the evolutions.
+    fn check_records(&self, words: &[u16], records: &[Evolution]) -> Result<(), Answer> {
+        refuse_at(4, words.iter().position(|&word| u32::from(word) >> self.outputs != 0))?;
+        let foreign = |state: u8| usize::from(state) >= self.states;
+        let index = records.iter().position(|it| foreign(it.source) || foreign(it.target));
+        refuse_at(4, index.map(|index| self.states + index))
+    }
+
+    /// Checks 6 and 7: no evolution to its own source, none with the states of an earlier one.
+    fn check_evolutions(&self, records: &[Evolution]) -> Result<(), Answer> {
+        let own = records.iter().position(|it| it.source == it.target);
+        refuse_at(6, own.map(|index| self.states + index))?;
+        let mut seen = [[false; STATES]; STATES];
+        let again = records.iter().position(|it| {
+            let pair = &mut seen[usize::from(it.source)][usize::from(it.target)];
+            std::mem::replace(pair, true)
+        });
+        refuse_at(7, again.map(|index| self.states + index))
+    }
+
+    /// Checks 8 and 9, and the move of each couple.
+    fn fill_table(
+        &self,
+        texts: &[Range<usize>],
+        records: &[Evolution],
+        table: &mut [u8],
+    ) -> Result<(), Answer> {
+        let mut without = None;
+        for state in 0..self.states {
+            let rules = rules_of(state, texts, records);
+            for setting in 0..1 << self.inputs {
+                let couple = state << self.inputs | setting;
+                let mut holding = rules.iter().filter(|rule| self.says(rule, setting));
+                match (holding.next(), holding.next()) {
+                    (Some(_), Some(_)) => return Err(Answer::refused(8, couple)),
+                    (Some(rule), None) => table[couple] = rule.target,
+                    (None, _) => without = without.or(Some(couple)),
+                }
+            }
+        }
+        refuse_at(9, without)
+    }
+
+    fn says(&self, rule: &Rule, setting: usize) -> bool {
+        self.holds(&rule.text, setting) == Some(true)
+    }
+
+    fn holds(&self, text: &Range<usize>, setting: usize) -> Option<bool> {
+        holds(&self.file[text.clone()], self.inputs, setting)
+    }
+}
+
+/// A rule of a state: where its condition stands, and the state it moves to.
+struct Rule {
+    text: Range<usize>,
+    target: u8,
+}
+
+/// The rest condition of a state, then its evolutions.
+fn rules_of(state: usize, texts: &[Range<usize>], records: &[Evolution]) -> Vec<Rule> {
+    let (rests, evolutions) = texts.split_at(texts.len() - records.len());
+    let rest = Rule { text: rests[state].clone(), target: state as u8 };
+    let leaving = records.iter().zip(evolutions).filter(|(it, _)| usize::from(it.source) == state);
+    let leaving = leaving.map(|(it, text)| Rule { text: text.clone(), target: it.target });
+    std::iter::once(rest).chain(leaving).collect()
+}
+
+/// The first state that no sequence of settings reaches from the initial one.
+fn first_unreached(machine: &Machine) -> Option<usize> {
+    let mut reached = [false; STATES];
+    let mut open = vec![machine.initial];
+    reached[machine.initial] = true;
+    while let Some(state) = open.pop() {
+        for setting in 0..machine.settings() {
+            let next = machine.to(machine.couple(state, setting));
+            if !std::mem::replace(&mut reached[next], true) {
+                open.push(next);
+            }
+        }
+    }
+    (0..machine.states).find(|&state| !reached[state])
+}

@@ -1,0 +1,58 @@
+//! Seeded cases, counted by the number of their answers.
+
+use mundrefol::generate::Random;
+use std::collections::BTreeMap;
+use std::env;
+use std::thread;
+
+/// Names the case when its check fails.
+struct Running {
+    job: &'static str,
+    seed: u64,
+    case: usize,
+}
+
+impl Drop for Running {
+    fn drop(&mut self) {
+        if thread::panicking() {
+            let Running { job, seed, case } = self;
+            eprintln!("failed: {job}, case {case} of MUNDREFOL_SEED={seed}");
+        }
+    }
+}
+
+/// The seed of this run of the tests: `MUNDREFOL_SEED`, or 1.
+pub fn seed() -> u64 {
+    let given = env::var("MUNDREFOL_SEED");
+    given.map_or(1, |seed| seed.parse().expect("MUNDREFOL_SEED is a number"))
+}
+
+/// The sequence of one case: it depends on the seed, the job and the case alone.
+fn random_of(job: &str, seed: u64, case: usize) -> Random {
+    let mixed = job.bytes().fold(seed, |sum, byte| sum.wrapping_mul(257).wrapping_add(byte.into()));
+    let mut random = Random::new(mixed.wrapping_mul(1 << 32).wrapping_add(case as u64));
+    Random::new(random.bits())
+}
+
+/// Runs the cases of a job. Each answers a number, and every one of `numbers` must be met.
+pub fn try_cases(
+    job: &'static str,
+    cases: usize,
+    numbers: &[usize],
+    try_case: impl Fn(&mut Random) -> usize,
+) {
+    let seed = seed();
+    let mut met: BTreeMap<usize, usize> = BTreeMap::new();
+    for case in 0..cases {
+        let _running = Running { job, seed, case };
+        let number = try_case(&mut random_of(job, seed, case));
+        *met.entry(number).or_default() += 1;
+    }
+    println!("{job}: {cases} cases of seed {seed}, by number {met:?}");
+    for number in numbers {
+        assert!(met.contains_key(number), "{job}: number {number} was never met, seed {seed}");
+    }
+    for number in met.keys() {
+        assert!(numbers.contains(number), "{job}: number {number} is not one of its answers");
+    }
+}
