@@ -1,0 +1,20 @@
+use borrow.Author.Needs.{needs}
+use native.Mathlib.Omega.{arith}
+use mathlib.Core.Path.{ap, _∙_}
+use Prim.Native.Nat.{ℕ, _+_}
+use lib.ListN.{getD}
+use Rattle.specification.proofs.records.target.Statement.{statement}
+use Rattle.specification.proofs.records.target.Tie as tie
+
+returns : tie.Need-returns
+returns c = (c .wide .ensures .0 ∙ ap (λ (at : ℕ). getD (c .before .before .before .before .args .file .now) (at + 1) 0) (c .before .before .record-at .ensures), omega arith)
+
+pub target-spec : {M : Type 1} → statement M
+target-spec =
+    tie.close
+    (tie.spec
+    (λ c κs. search needs)
+    (λ c. search needs)
+    (λ c. search needs)
+    (λ c κs. search needs)
+    returns)
