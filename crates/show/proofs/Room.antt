@@ -1,17 +1,20 @@
 -- The longest sheet: 46 bytes for the first line, 17 for each couple and 5 for each byte of the plan, with numbers of at most 5 digits.
 -- A number has as many digits as its tenth part and one more; a run's line has at most 5 bytes for each byte that stores it.
--- By induction on the ranks, on the settings and on the runs. Assumes nothing.
+-- The line of a refusal has at most 33 bytes. By induction on the ranks, on the settings and on the runs. Assumes nothing.
 use mathlib.Core.Path.{_≡_, refl, sym, ap, _∙_}
-use mathlib.Core.Bool.{Bool, true, false}
+use mathlib.Core.Bool.{Bool, true, false, cond}
 use mathlib.Core.List.{List, [], _∷_, _++_, map}
-use Prim.Native.Nat.{ℕ, zero, suc, _+_, _*_, _/_, _≤_, _<_}
+use mathlib.Core.Logic.{_⊎_, ⊎-elim}
+use Prim.Native.Nat.{ℕ, zero, suc, _+_, _*_, _/_, _^_, _≤_, _<_, zero-le, max}
+use native.Mathlib.Nat.{pow-succ'}
 use native.Mathlib.Omega.{arith}
-use lib.Dec.{ltb}
+use lib.Dec.{eqb, ltb}
 use lib.ListN.{length, getD, take, drop, length-append, take-append-drop}
-use borrow.Author.Tests.{ltb-true, ltb-false}
+use borrow.Author.Tests.{ltb-true, ltb-false, eq-eqb}
+use Rattle.machine.specs.Limits.{unmarked}
 use Rattle.machine.specs.Plans.{split}
 use Rattle.show.specs.Digits.{digits}
-use Rattle.show.specs.Sheet.{countOf, markedIn, ranksIn, fieldsBehind, firstLine, rankLines, runLines, sheetText}
+use Rattle.show.specs.Sheet.{countOf, markedIn, ranksIn, fieldsBehind, firstLine, rankLines, runLines, sheetText, refusalText}
 use Rattle.show.proofs.Digits.{digits-one, digits-more}
 use Rattle.show.proofs.Counts.{count-fits, marked-rest}
 
@@ -29,26 +32,26 @@ room-more m k p room n h = go (ltb n 10) refl
     go true e = rw (digits-one n (ltb-true n 10 e)) (omega arith)
     go false e = rw (digits-more n (ltb-false n 10 e), length-append) (omega (arith, room (n / 10) (omega arith)))
 
+room-up : (k : ℕ) → Room (10 ^ suc k) (suc k)
+room-up zero = room-one
+room-up (suc k) = rw pow-succ' (room-more (10 ^ suc k) (suc k) (omega arith) (room-up k))
+
 room-two : Room 100 2
-room-two = room-more 10 1 (omega arith) room-one
+room-two = room-up 1
 
 room-three : Room 1000 3
-room-three = room-more 100 2 (omega arith) room-two
-
-room-four : Room 10000 4
-room-four = room-more 1000 3 (omega arith) room-three
+room-three = room-up 2
 
 room-five : Room 100000 5
-room-five = room-more 10000 4 (omega arith) room-four
+room-five = room-up 4
+
+room-twenty : Room (10 ^ 20) 20
+room-twenty = room-up 19
 
 -- every element is a byte
-abbrev Bytes : List ℕ → Type 0
+abbrev pub Bytes : List ℕ → Type 0
 Bytes [] = Unit {0}
 Bytes (x ∷ l) = (x < 256) × Bytes l
-
-bytes-are : (l : List ℕ) → ((i : ℕ) → getD l i 0 < 256) → Bytes l
-bytes-are [] h = tt
-bytes-are (x ∷ l) h = (h 0, bytes-are l (λ i. h (suc i)))
 
 bytes-take : (n : ℕ) (l : List ℕ) → Bytes l → Bytes (take n l)
 bytes-take zero l h = tt
@@ -87,9 +90,24 @@ first-room inputs states couples marked i s c m =
 
 -- every sheet has room in so many bytes, where no rank is as high as the number of couples
 pub sheet-room : (inputs states : ℕ) (ranks plan : List ℕ) → inputs < 10 → states < 100 → length ranks < 100000 → ranksIn ranks ≤ length ranks
-    → length plan < 99999 → ((i : ℕ) → getD plan i 0 < 256) → length (sheetText inputs states ranks plan) ≤ 46 + 17 * length ranks + 5 * length plan
+    → length plan < 99999 → Bytes plan → length (sheetText inputs states ranks plan) ≤ 46 + 17 * length ranks + 5 * length plan
 sheet-room inputs states ranks plan i s c r p b =
     let first = first-room inputs states (length ranks) (markedIn ranks) i s c (omega (arith, marked-rest ranks)) in
     let middle = ranks-room (λ k. countOf k ranks) (ranksIn ranks) (omega arith) (λ k. omega (arith, count-fits k ranks)) in
-    let last = runs-room (length plan) 1 plan (omega arith) (bytes-are plan b) in
+    let last = runs-room (length plan) 1 plan (omega arith) b in
     simp length-append (omega arith)
+
+-- no rank is as high as t, where none of a marked couple is
+pub ranks-low : (t : ℕ) (ranks : List ℕ) → ((c : ℕ) → c < length ranks → (getD ranks c 0 < t) ⊎ (getD ranks c 0 ≡ unmarked)) → ranksIn ranks ≤ t
+ranks-low t [] h = zero-le
+ranks-low t (x ∷ ranks) h =
+    let rest = ranks-low t ranks (λ c l. h (suc c) (omega arith)) in
+    ⊎-elim (λ l. below (eqb x unmarked) rest l) (λ e. rw (eq-eqb x unmarked e) rest) (h 0 (omega arith))
+  where
+    below : (b : Bool) → ranksIn ranks ≤ t → x < t → cond b (ranksIn ranks) (max (suc x) (ranksIn ranks)) ≤ t
+    below true rest l = rest
+    below false rest l = omega arith
+
+-- the line of a refusal is short: a number has at most 3 digits, and a place at most 20
+pub refusal-room : (number place : ℕ) → number < 1000 → place < 10 ^ 20 → length (refusalText number place) ≤ 33
+refusal-room number place n p = simp length-append (omega (arith, room-three number n, room-twenty place p))

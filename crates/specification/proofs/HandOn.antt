@@ -8,7 +8,7 @@ use mathlib.Core.Path.{_≡_, refl, sym, ap, ap₂, subst, _∙_}
 use mathlib.Core.Bool.{Bool, true, false}
 use mathlib.Core.List.{List, [], _∷_, _++_}
 use lib.ListN.{length, getD, drop, replicate, replicate-append-replicate}
-use Rattle.specification.specs.Records.{sumTo, recordAt, textLength, sizesOf}
+use Rattle.specification.specs.Records.{sumTo, recordAt, source, textLength, sizesOf}
 use Rattle.specification.specs.Rules.{textAt}
 use Rattle.specification.specs.Evolutions.{evolutionOf, evolutions, blank, Handed}
 use Rattle.specification.specs.Filling.{placeOf, filledOf, filling, Fillable}
@@ -32,8 +32,9 @@ module _ (file : List ℕ) (z : Sizes) (from text : ℕ) (ef : from ≡ recordAt
 
   one-is : (i : ℕ) → filledOf file from text true i ≡ evolutionOf file z i
   one-is i =
-      let e : from + 3 * i ≡ recordAt z (z .states + i) = omega (arith, ef) in
-      cc (ap (λ (at : ℕ). getD file at 0) e, byte-is i 1, byte-is i 2, place-is i)
+      let e : from + 3 * i ≡ recordAt z (z .states + i) + 0 = omega (arith, ef) in
+      let s : getD file (from + 3 * i) 0 ≡ source file z (z .states + i) = ap (λ (at : ℕ). getD file at 0) e in
+      cc (s, byte-is i 1, byte-is i 2, place-is i)
 
   all-are : (n : ℕ) → filling file from text true n ≡ evolutions file z n
   unfolding evolutions

@@ -10,3 +10,4 @@ pub mod Blanks
 pub mod Once
 pub mod Refusals
 pub mod Meanings
+pub mod Accepted

@@ -56,42 +56,41 @@ module _ (file table words : List ℕ) (room : ℕ) where
     done : a .number ≡ 0 → ReadHere file table words room (contentsOf a (sizesOf file)) t w
     done n = record { verdict = verdict; refused = λ h. absurd (h n); done = λ _. refl; table = u .table; words = u .words }
 
-    -- refused by 4 to 13, or read
-    pub late : {k : Contents} {f x c : ℕ} → (a .number ≡ 0 → k ≡ contentsOf a (sizesOf file)) → ((a .number ≡ 0 → ⊥) → k ≡ refusalOf a) → Laid file (sizesOf file)
-        → f ≡ recordAt (sizesOf file) (sizesOf file .states) → x ≡ textAt file (sizesOf file) (sizesOf file .states) → c ≡ sizesOf file .evolutions
-        → CoreAs file table words room (record { contents = k; from = f; text = x; count = c; good = eqb (a .number) 0 }) t w
-    late {k} {f} {x} {c} good bad l ef ex ec = by (ℕ-discrete (a .number) 0)
-      where
-        core : Contents → Core
-        core k = record { contents = k; from = f; text = x; count = c; good = eqb (a .number) 0 }
+    -- refused by 4 to 13, or read: the records begin at f, the evolutions' texts at x, and there are c of them
+    module _ {f x c : ℕ} (l : Laid file (sizesOf file)) (ef : f ≡ recordAt (sizesOf file) (sizesOf file .states)) (ex : x ≡ textAt file (sizesOf file) (sizesOf file .states)) (ec : c ≡ sizesOf file .evolutions) where
+      abbrev core : Contents → Core
+      core k = record { contents = k; from = f; text = x; count = c; good = eqb (a .number) 0 }
 
-        fits : c ≤ room
-        fits = let p = judged-passes 3 v (omega arith) e in omega (arith, ec, roomy (p .1 .1 .1 .1 .0))
+      fits : c ≤ room
+      fits = let p = judged-passes 3 v (omega arith) e in omega (arith, ec, roomy (p .1 .1 .1 .1 .0))
 
-        by : Dec (a .number ≡ 0) → CoreAs file table words room (record { contents = k; from = f; text = x; count = c; good = eqb (a .number) 0 }) t w
-        by (yes n) =
-            subst (λ k. CoreAs file table words room (record { contents = k; from = f; text = x; count = c; good = eqb (a .number) 0 }) t w) (sym (good n)) (record {
-              here = done n;
-              fits = fits;
-              hands = record {
-                nothing = λ h _. absurd (omega arith);
-                zeros = λ h. absurd (omega arith);
-                all = λ _. (ec, eq-eqb _ _ n);
-                places = λ _. (l, ec, ef, ex);
-              };
-            })
-        by (no n) =
-            let b = judged-number 4 13 (u .judged) (omega arith) n in
-            subst (λ k. CoreAs file table words room (record { contents = k; from = f; text = x; count = c; good = eqb (a .number) 0 }) t w) (sym (bad n)) (record {
-              here = refused n;
-              fits = fits;
-              hands = record {
-                nothing = λ _ h. absurd (omega (arith, b .0));
-                zeros = λ _. (ec, ne-eqb _ _ n);
-                all = λ h. absurd (n h);
-                places = λ _. (l, ec, ef, ex);
-              };
-            })
+      late-by : {k : Contents} → Dec (a .number ≡ 0) → (a .number ≡ 0 → k ≡ contentsOf a (sizesOf file)) → ((a .number ≡ 0 → ⊥) → k ≡ refusalOf a) → CoreAs file table words room (core k) t w
+      late-by (yes n) good bad =
+          subst (λ k. CoreAs file table words room (core k) t w) (sym (good n)) (record {
+            here = done n;
+            fits = fits;
+            hands = record {
+              nothing = λ h _. absurd (omega arith);
+              zeros = λ h. absurd (omega arith);
+              all = λ _. (ec, eq-eqb _ _ n);
+              places = λ _. (l, ec, ef, ex);
+            };
+          })
+      late-by (no n) good bad =
+          let b = judged-number 4 13 (u .judged) (omega arith) n in
+          subst (λ k. CoreAs file table words room (core k) t w) (sym (bad n)) (record {
+            here = refused n;
+            fits = fits;
+            hands = record {
+              nothing = λ _ h. absurd (omega (arith, b .0));
+              zeros = λ _. (ec, ne-eqb _ _ n);
+              all = λ h. absurd (n h);
+              places = λ _. (l, ec, ef, ex);
+            };
+          })
+
+      pub late : {k : Contents} → (a .number ≡ 0 → k ≡ contentsOf a (sizesOf file)) → ((a .number ≡ 0 → ⊥) → k ≡ refusalOf a) → CoreAs file table words room (core k) t w
+      late good bad = late-by (ℕ-discrete (a .number) 0) good bad
 
 -- the sizes that the code has are those of the file
 pub of-file : {file : List ℕ} {z : Sizes} {m : ℕ} {table words : List ℕ} {a : Answer} {t w : List ℕ} → z ≡ sizesOf file → m ≡ settings z → SoundAs file z m table words a t w

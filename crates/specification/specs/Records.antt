@@ -39,19 +39,22 @@ records z = z .states + z .evolutions
 abbrev pub recordAt : Sizes → ℕ → ℕ
 recordAt z r = z .first + 3 * r
 
+abbrev pub byteOf : List ℕ → Sizes → ℕ → ℕ → ℕ
+byteOf file z r k = getD file (recordAt z r + k) 0
+
 -- of a state: output word (two bytes), length of its rest condition
 abbrev pub word : List ℕ → Sizes → ℕ → ℕ
 word file z r = twoAt file (recordAt z r)
 
 -- of an evolution: source, target, length of its condition
 abbrev pub source : List ℕ → Sizes → ℕ → ℕ
-source file z r = getD file (recordAt z r) 0
+source file z r = byteOf file z r 0
 
 abbrev pub target : List ℕ → Sizes → ℕ → ℕ
-target file z r = getD file (recordAt z r + 1) 0
+target file z r = byteOf file z r 1
 
 abbrev pub textLength : List ℕ → Sizes → ℕ → ℕ
-textLength file z r = getD file (recordAt z r + 2) 0
+textLength file z r = byteOf file z r 2
 
 -- each size in its range, the initial state below S
 pub record Ranges (z : Sizes) : Type 0 where

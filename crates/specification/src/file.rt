@@ -34,12 +34,20 @@ fn kind_of(file: &[u8], k: usize) -> usize
     wide(file[entry_at(k)])
 }
 
+// A number of two bytes, so many bytes into entry k.
+fn number_in(file: &[u8], k: usize, by: usize) -> usize
+    requires { ⌜ (k < kinds) × (by ≤ 3) × (entryAt kinds ≤ length (now file)) ⌝ }
+    ensures { λ r. ⌜ (r ≡ twoAt (now (file .entry)) (entryAt k + by)) × (r < 2 ^ 16) ⌝ }
+{
+    two_at(file, entry_at(k) + by)
+}
+
 // Where the body of entry k begins.
 fn offset_of(file: &[u8], k: usize) -> usize
     requires { ⌜ (k < kinds) × (entryAt kinds ≤ length (now file)) ⌝ }
     ensures { λ r. ⌜ r ≡ offsetOf (now (file .entry)) k ⌝ }
 {
-    two_at(file, entry_at(k) + 1)
+    number_in(file, k, 1)
 }
 
 // The length of the body of entry k.
@@ -47,7 +55,7 @@ pub(crate) fn length_of(file: &[u8], k: usize) -> usize
     requires { ⌜ (k < kinds) × (entryAt kinds ≤ length (now file)) ⌝ }
     ensures { λ r. ⌜ (r ≡ lengthOf (now (file .entry)) k) × (r < 2 ^ 16) ⌝ }
 {
-    two_at(file, entry_at(k) + 3)
+    number_in(file, k, 3)
 }
 
 // Where the first body starts.

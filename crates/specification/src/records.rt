@@ -5,7 +5,7 @@ ghost use lib.ListN.{length, getD};
 ghost use Rattle.verdict.specs.Checks.{Decides, Finds};
 ghost use Rattle.specification.specs.Limits.{mostBytes, mostOutputs};
 ghost use Rattle.specification.specs.File.{entryAt, kinds, startOf, lengthOf, WellFormed};
-ghost use Rattle.specification.specs.Records.{sumTo, records, recordAt, word as wordOf, source as sourceOf, target as targetOf, textLength, sizesOf, Ranges, Sized};
+ghost use Rattle.specification.specs.Records.{sumTo, records, recordAt, byteOf, word as wordOf, source as sourceOf, target as targetOf, textLength, sizesOf, Ranges, Sized};
 ghost use Rattle.specification.specs.Private.{Laid, Wrong};
 use crate::EVOLUTIONS;
 use crate::OUTPUTS;
@@ -58,6 +58,14 @@ pub(crate) fn record_at(z: Sizes, r: usize) -> usize
     z.first + 3 * r
 }
 
+// Byte k of record r.
+fn byte_of(file: &[u8], z: Sizes, r: usize, k: usize) -> usize
+    requires { ⌜ (recordAt z r + k < length (now file)) × (length (now file) ≤ mostBytes) ⌝ }
+    ensures { λ t. ⌜ (t ≡ byteOf (now (file .entry)) z r k) × (t < 256) ⌝ }
+{
+    wide(file[record_at(z, r) + k])
+}
+
 // The output word of the state with record r.
 pub(crate) fn word(file: &[u8], z: Sizes, r: usize) -> usize
     requires { ⌜ (recordAt z r + 2 < length (now file)) × (length (now file) ≤ mostBytes) ⌝ }
@@ -71,7 +79,7 @@ pub(crate) fn source(file: &[u8], z: Sizes, r: usize) -> usize
     requires { ⌜ (recordAt z r + 2 < length (now file)) × (length (now file) ≤ mostBytes) ⌝ }
     ensures { λ t. ⌜ (t ≡ sourceOf (now (file .entry)) z r) × (t < 256) ⌝ }
 {
-    wide(file[record_at(z, r)])
+    byte_of(file, z, r, 0)
 }
 
 // The target of the evolution with record r.
@@ -79,7 +87,7 @@ pub(crate) fn target(file: &[u8], z: Sizes, r: usize) -> usize
     requires { ⌜ (recordAt z r + 2 < length (now file)) × (length (now file) ≤ mostBytes) ⌝ }
     ensures { λ t. ⌜ (t ≡ targetOf (now (file .entry)) z r) × (t < 256) ⌝ }
 {
-    wide(file[record_at(z, r) + 1])
+    byte_of(file, z, r, 1)
 }
 
 // The length of the condition of record r.
@@ -87,7 +95,7 @@ pub(crate) fn text_length(file: &[u8], z: Sizes, r: usize) -> usize
     requires { ⌜ (recordAt z r + 2 < length (now file)) × (length (now file) ≤ mostBytes) ⌝ }
     ensures { λ t. ⌜ (t ≡ textLength (now (file .entry)) z r) × (t < 256) ⌝ }
 {
-    wide(file[record_at(z, r) + 2])
+    byte_of(file, z, r, 2)
 }
 
 // The lengths of the conditions of the first records, summed.

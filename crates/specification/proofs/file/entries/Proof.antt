@@ -1,3 +1,4 @@
+-- `entries` goes through the contents: the entries before k are right, and `start` is where the body of entry k starts.
 use borrow.Author.Needs.{needs}
 use native.Mathlib.Omega.{arith}
 use mathlib.Core.Path.{_≡_, ap}

@@ -1,3 +1,4 @@
+-- `first_body` is where the entries end.
 use borrow.Author.Needs.{needs}
 use native.Mathlib.Omega.{arith}
 use Rattle.specification.proofs.Laws.{start-first}

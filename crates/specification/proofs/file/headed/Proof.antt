@@ -1,3 +1,4 @@
+-- `headed` asks for the length, the mark and the count, one after the other.
 use borrow.Author.Needs.{needs}
 use native.Mathlib.Omega.{arith}
 use borrow.Author.Tests.{not-true, not-false}

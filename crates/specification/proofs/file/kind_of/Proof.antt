@@ -1,3 +1,4 @@
+-- `kind_of` is the byte at the place of the entry.
 use borrow.Author.Needs.{needs}
 use mathlib.Core.Path.{ap, _∙_}
 use Prim.Native.Nat.{ℕ}

@@ -1,3 +1,4 @@
+-- `measured` asks for three lengths, one after the other.
 use borrow.Author.Needs.{needs}
 use native.Mathlib.Omega.{arith}
 use Prim.Native.Nat.{_%_}

@@ -1,3 +1,4 @@
+-- `well_formed` asks the three parts of refusal 1, one after the other.
 use borrow.Author.Tests.{not-true, not-false}
 use Rattle.verdict.proofs.Tests.{it-holds, it-fails}
 use Rattle.specification.proofs.file.well_formed.Statement.{statement}

@@ -1,3 +1,4 @@
+-- `one` is a record of the file, or a zero one, and where the next text starts.
 use borrow.Author.Needs.{needs}
 use Rattle.specification.proofs.handing.one.Statement.{statement}
 use Rattle.specification.proofs.handing.one.Tie as tie

@@ -1,3 +1,4 @@
+-- `blank_table` fills with the blank: the first p elements are blank.
 use borrow.Author.Needs.{needs}
 use native.Mathlib.Omega.{arith}
 use mathlib.Core.Path.{_≡_, refl}

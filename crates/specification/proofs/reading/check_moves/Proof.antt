@@ -1,3 +1,4 @@
+-- `check_moves` goes through refusals 9 to 13: what the checks of a table find in the filled table is what they ask of the file.
 use borrow.Author.Needs.{needs}
 use borrow.Author.Tests.{not-true, not-false}
 use Rattle.verdict.specs.Checks.{None, Finds, Decides}
@@ -9,6 +10,9 @@ use Rattle.specification.specs.Rules.{NoRule, Moves}
 use Rattle.specification.proofs.Settling.{nine, ten, twelve, thirteen}
 use Rattle.specification.proofs.reading.check_moves.Statement.{statement}
 use Rattle.specification.proofs.reading.check_moves.Tie as tie
+
+returns : tie.Need-returns
+returns c = halt (at-least (nine (c .before .before .before .before .before .before .pre .3) (c .before .before .before .before .before .before .pre .0) (c .before .before .before .before .before .before .pre .2) (c .before .before .before .first-wrong .ensures)) (c .before .p .given .1))
 
 none9 : (c : tie.After-enum-told) → None (NoRule (c .before .before .before .before .before .args .file .now) (c .before .before .before .before .before .args .z) (c .before .before .before .before .before .args .m))
 none9 c = found-none (nine (c .before .before .before .before .before .pre .3) (c .before .before .before .before .before .pre .0) (c .before .before .before .before .before .pre .2) (c .before .before .first-wrong .ensures)) (c .enum-told .given .1)
@@ -30,9 +34,6 @@ none12 c = found-none (find12 (c .before .before)) (c .enum-told4 .given .1)
 
 decide13 : (c : tie.After-started) → Decides (Start (Moves (c .before .before .before .before .before .before .before .before .before .before .before .before .before .before .before .args .file .now) (c .before .before .before .before .before .before .before .before .before .before .before .before .before .before .before .args .z)) (c .before .before .before .before .before .before .before .before .before .before .before .before .before .before .before .args .m) (c .before .before .before .before .before .before .before .before .before .before .before .before .before .before .before .args .z .initial)) (c .started .result)
 decide13 c = thirteen (c .before .before .before .before .before .before .before .before .before .before .before .before .before .before .before .pre .3) (c .before .before .before .before .before .before .before .before .before .before .before .before .before .before .before .pre .0) (c .before .before .before .before .before .before .before .before .before .before .before .before .before .before .before .pre .2) (none9 (c .before .before .before .before .before .before .before .before .before .before)) (c .before .before .before .before .before .before .before .before .before .before .before .before .before .before .before .pre .1) (c .started .ensures)
-
-returns : tie.Need-returns
-returns c = halt (at-least (nine (c .before .before .before .before .before .before .pre .3) (c .before .before .before .before .before .before .pre .0) (c .before .before .before .before .before .before .pre .2) (c .before .before .before .first-wrong .ensures)) (c .before .p .given .1))
 
 returns-2 : tie.Need-returns-2
 returns-2 c = pass (none9 (c .before .before .before .before)) (halt (at-least (find10 (c .before .before .before)) (c .before .p2 .given .1)))

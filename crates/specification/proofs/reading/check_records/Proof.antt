@@ -1,3 +1,4 @@
+-- `check_records` goes through refusals 4 to 7: each search passes on to the next, or halts at the least place.
 use borrow.Author.Needs.{needs}
 use Rattle.verdict.specs.Checks.{None}
 use Rattle.verdict.proofs.Order.{pass, halt, ends}

@@ -1,3 +1,4 @@
+-- `check_room` goes through the three buffers in their order.
 use borrow.Author.Needs.{needs}
 use native.Mathlib.Omega.{arith}
 use mathlib.Core.Path.{_≡_, refl, ap}

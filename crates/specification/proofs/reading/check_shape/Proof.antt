@@ -1,3 +1,4 @@
+-- `check_shape` goes through refusals 1, 2 and 3; what 1 and 2 ask is kept for the rest.
 use borrow.Author.Needs.{needs}
 use native.Mathlib.Omega.{arith}
 use mathlib.Core.Path.{sym, subst}

@@ -1,3 +1,4 @@
+-- `fill_words` fills the words: the first s are those of the records.
 use borrow.Author.Needs.{needs}
 use native.Mathlib.Omega.{arith}
 use mathlib.Core.Path.{_≡_}

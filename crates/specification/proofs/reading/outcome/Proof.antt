@@ -1,3 +1,4 @@
+-- `outcome` is a refusal or the sizes, by the number.
 use borrow.Author.Needs.{needs}
 use mathlib.Core.Path.{refl}
 use Rattle.specification.proofs.reading.outcome.Statement.{statement}

@@ -1,3 +1,4 @@
+-- `read_core` joins the shape and the rules: the sizes that it reads are those of the file, and what there is to hand on follows from the number.
 use borrow.Author.Needs.{needs}
 use native.Mathlib.Omega.{arith}
 use mathlib.Core.Path.{_≡_, sym, ap, subst, _∙_}
@@ -61,12 +62,12 @@ returns-2 c =
     let z = c .before .before .before .before .before .before .before .before .before .before .before .before .before .before .sizes-of .ensures in
     let text : c .before .before .record-at2 .result + c .before .texts-sum .result ≡ textAt (c .before .before .before .before .before .before .before .before .before .before .before .before .before .before .before .before .before .before .before .before .before .args .file .now) (c .before .before .before .before .before .before .before .before .before .before .before .before .before .before .sizes-of .result) (c .before .before .before .before .before .before .before .before .before .before .before .before .before .before .sizes-of .result .states) = omega arith in
     late _ _ _ _ (c .before .before .before .before .before .before .before .before .before .before .before .before .before .before .before .before .before .check-shape .ensures .0) (c .before .before .before .before .before .before .before .before .before .before .before .before .before .before .before .if1 .left) (of-file z (settings-is (c .before .before .before .before .before .before .before .before .before .before .before .before .before)) (c .before .before .before .before .before .before .before .before .before .before .read-sound .ensures))
-    (λ e. c .before .before .before .before .before .outcome .ensures .0 e ∙ ap (contentsOf (c .before .before .before .before .before .before .before .before .before .before .read-sound .result)) z)
-    (c .before .before .before .before .before .outcome .ensures .1)
     (lies (c .before .before .before .before .before .before .before .before .before .before .before .before .before .before .before))
     (c .before .before .before .before .record-at .ensures ∙ ap (λ z. recordAt z (z .states)) z)
     (text ∙ ap (λ z. textAt (c .before .before .before .before .before .before .before .before .before .before .before .before .before .before .before .before .before .before .before .before .before .args .file .now) z (z .states)) z)
     (ap (λ z. z .evolutions) z)
+    (λ e. c .before .before .before .before .before .outcome .ensures .0 e ∙ ap (contentsOf (c .before .before .before .before .before .before .before .before .before .before .read-sound .result)) z)
+    (c .before .before .before .before .before .outcome .ensures .1)
 
 pub read-core-spec : {M : Type 1} → statement M
 read-core-spec =

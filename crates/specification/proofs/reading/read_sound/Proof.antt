@@ -1,3 +1,4 @@
+-- `read_sound` blanks both buffers after a refusal by 4 to 13, and leaves them filled otherwise.
 use borrow.Author.Needs.{needs}
 use native.Mathlib.Omega.{arith}
 use mathlib.Core.Logic.{inl}

@@ -1,3 +1,4 @@
+-- `settle` goes through refusals 4 to 13: the checks of records, the scan of the rules, the checks of the filled table.
 use borrow.Author.Needs.{needs}
 use native.Mathlib.Omega.{arith}
 use mathlib.Core.List.{_∷_}

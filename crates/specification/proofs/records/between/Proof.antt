@@ -1,3 +1,4 @@
+-- `between` asks for two bounds.
 use native.Mathlib.Omega.{arith}
 use Rattle.verdict.proofs.Tests.{it-fails, decides-leb}
 use Rattle.specification.proofs.records.between.Statement.{statement}

@@ -1,3 +1,4 @@
+-- `beyond` asks a state's word, or an evolution's source and target.
 use borrow.Author.Needs.{needs}
 use native.Mathlib.Omega.{arith}
 use mathlib.Core.Logic.{⊎-elim}

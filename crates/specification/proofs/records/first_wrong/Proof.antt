@@ -1,3 +1,4 @@
+-- `first_wrong` finds the least record at which a check fails: it fails at none below r.
 use borrow.Author.Needs.{needs}
 use native.Mathlib.Omega.{arith}
 use mathlib.Core.Path.{_≡_}

@@ -1,3 +1,4 @@
+-- `in_range` asks for each size, one after the other.
 use borrow.Author.Needs.{needs}
 use native.Mathlib.Omega.{arith}
 use borrow.Author.Tests.{not-true, not-false}

@@ -1,3 +1,4 @@
+-- `overflows` compares with 2 to the outputs: a shift by at most 16 keeps below 2 to the 64.
 use borrow.Author.Needs.{needs}
 use native.Mathlib.Omega.{arith}
 use lib.Pow.{pow-mono}

@@ -1,3 +1,4 @@
+-- `own` asks for an evolution whose target is its source.
 use borrow.Author.Needs.{needs}
 use native.Mathlib.Omega.{arith}
 use Rattle.verdict.proofs.Tests.{it-fails, decides-eqb}

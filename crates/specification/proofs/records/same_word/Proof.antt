@@ -1,3 +1,4 @@
+-- `same_word` looks for the word among the earlier states: none before q has it.
 use borrow.Author.Needs.{needs}
 use native.Mathlib.Omega.{arith}
 use mathlib.Core.Path.{_≡_}

@@ -1,3 +1,4 @@
+-- `sized` asks for the ranges, the length of kind 2 and the sum of the condition lengths, one after the other.
 use borrow.Author.Needs.{needs}
 use native.Mathlib.Omega.{arith}
 use mathlib.Core.Path.{_≡_, sym, ap, subst}

@@ -1,3 +1,4 @@
+-- `sizes_of` reads kind 1, the length of kind 3 and where kind 2 starts.
 use borrow.Author.Needs.{needs}
 use native.Mathlib.Omega.{arith}
 use mathlib.Core.Path.{_≡_, ap}

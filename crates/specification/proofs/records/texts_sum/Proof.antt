@@ -1,3 +1,4 @@
+-- `texts_sum` adds up lengths: `sum` is that of the first r.
 use borrow.Author.Needs.{needs}
 use native.Mathlib.Omega.{arith}
 use mathlib.Core.Path.{_≡_, ap}

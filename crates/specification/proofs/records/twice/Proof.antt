@@ -1,3 +1,4 @@
+-- `twice` looks for the source and target among the earlier evolutions: none before q has them.
 use borrow.Author.Needs.{needs}
 use native.Mathlib.Omega.{arith}
 use mathlib.Core.Path.{_≡_}

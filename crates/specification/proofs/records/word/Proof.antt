@@ -1,3 +1,4 @@
+-- `word` is the number at the place of the record.
 use borrow.Author.Needs.{needs}
 use native.Mathlib.Omega.{arith}
 use mathlib.Core.Path.{ap, _∙_}

@@ -1,3 +1,4 @@
+-- `wrong` asks the check that it is told.
 use borrow.Author.Needs.{needs}
 use Rattle.specification.proofs.records.wrong.Statement.{statement}
 use Rattle.specification.proofs.records.wrong.Tie as tie

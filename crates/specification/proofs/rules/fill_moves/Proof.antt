@@ -1,3 +1,5 @@
+-- `fill_moves` scans the rules of each couple and notes the move: no couple below s * m + v has two rules, those bytes are noted, and the tally of
+-- the couple's rules below r is in `to`. A record between two links is no rule of the state.
 use borrow.Author.Needs.{needs}
 use native.Mathlib.Omega.{arith}
 use mathlib.Core.Path.{_≡_, refl, sym, ap, subst, _∙_}

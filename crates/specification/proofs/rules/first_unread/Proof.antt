@@ -1,3 +1,4 @@
+-- `first_unread` finds the least record whose condition does not read: each below r reads.
 use borrow.Author.Needs.{needs}
 use native.Mathlib.Omega.{arith}
 use mathlib.Core.Path.{_≡_}

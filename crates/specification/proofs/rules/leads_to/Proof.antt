@@ -1,3 +1,4 @@
+-- `leads_to` is where a rule leads, by whether its record is a state's.
 use borrow.Author.Needs.{needs}
 use mathlib.Core.Path.{sym, _∙_}
 use Rattle.specification.proofs.Firing.{leads-state, leads-evolution}

@@ -1,3 +1,4 @@
+-- `met` reads the part of the file that a record names, where it lies within the file.
 use borrow.Author.Needs.{needs}
 use native.Mathlib.Omega.{arith}
 use mathlib.Core.Path.{_≡_, ap, subst}

@@ -1,3 +1,4 @@
+-- `next_rule` looks for the next rule of the same state: none between r and q is one.
 use borrow.Author.Needs.{needs}
 use native.Mathlib.Omega.{arith}
 use mathlib.Core.Path.{_≡_, sym, _∙_}

@@ -1,3 +1,4 @@
+-- `next_rules` links the rules: the first r links are right.
 use borrow.Author.Needs.{needs}
 use native.Mathlib.Omega.{arith}
 use mathlib.Core.Path.{_≡_}

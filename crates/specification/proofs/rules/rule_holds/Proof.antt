@@ -1,3 +1,4 @@
+-- `rule_holds` is whether the condition reads and says true.
 use borrow.Author.Needs.{needs}
 use Rattle.verdict.proofs.Tests.{it-fails}
 use Rattle.specification.proofs.Firing.{told-decides, told-unread}

@@ -1,3 +1,4 @@
+-- `rule_of` is the state of a rule, by whether its record is a state's.
 use borrow.Author.Needs.{needs}
 use mathlib.Core.Path.{sym, _∙_}
 use Rattle.specification.proofs.Firing.{rule-state, rule-evolution}

@@ -1,3 +1,4 @@
+-- `says` reads the part of the file that is the record's text, which lies within the file because the lengths sum up to its end.
 use borrow.Author.Needs.{needs}
 use native.Mathlib.Omega.{arith}
 use mathlib.Core.Path.{_≡_, subst}

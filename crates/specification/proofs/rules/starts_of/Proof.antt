@@ -1,3 +1,4 @@
+-- `starts_of` adds up lengths: `at` is where text r begins, and the first r places are right.
 use borrow.Author.Needs.{needs}
 use native.Mathlib.Omega.{arith}
 use mathlib.Core.Path.{_≡_}

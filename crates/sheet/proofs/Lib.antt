@@ -1,0 +1,5 @@
+pub mod Bounds
+pub mod Files
+pub mod Once
+pub mod Plans
+pub mod Rooms

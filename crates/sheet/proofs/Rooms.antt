@@ -1,0 +1,78 @@
+-- Every text that is printed has room: ranks are below the number of couples, the runs of a plan have no more settings than there are
+-- couples and each setting is a byte, and numbers are words of the machine.
+use mathlib.Core.Path.{_≡_, refl, sym, subst, _∙_}
+use mathlib.Core.Logic.{_⊎_, inl, inr, ⊎-elim}
+use mathlib.Core.List.{List, [], _∷_, _++_}
+use Prim.Native.Nat.{ℕ, _+_, _*_, _/_, _%_, _^_, _≤_, _<_}
+use native.Mathlib.Omega.{arith}
+use lib.ListN.{length, getD}
+use Rattle.machine.specs.Limits.{mostInputs, mostStates, mostSettings, mostCouples}
+use Rattle.machine.specs.Lists.{In}
+use Rattle.machine.specs.Runs.{Machine, size, couples, Sound}
+use Rattle.machine.specs.Plans.{Plan, empty, pass, add, storedRun, stored}
+use Rattle.machine.proofs.Couples.{settings-bound, couples-bound}
+use Rattle.machine.proofs.Members.{in-either}
+use Rattle.machine.proofs.Small.{rank-small, run-to-small}
+use Rattle.machine.proofs.Stored.{run-below}
+use Rattle.machine.proofs.Plans.{plan-runs}
+use Rattle.plan.specs.Planning.{PlanBytes}
+use Rattle.show.specs.Sheet.{sheetText, refusalText}
+use Rattle.show.specs.Written.{Writes}
+use Rattle.show.specs.declared.Written.{Written}
+use Rattle.show.specs.declared.Written.the-variants.{All}
+use Rattle.show.proofs.Over.{written-fits}
+use Rattle.show.proofs.Room.{Bytes, sheet-room, ranks-low, refusal-room}
+use Rattle.sheet.specs.Printed.{planRoom, RanksOf}
+use Rattle.sheet.specs.Steps.{textRoom, Whole}
+
+-- bytes of settings, and of stored runs
+bytes-of : (vs : List ℕ) → ((w : ℕ) → In w vs → w < 256) → Bytes vs
+bytes-of [] h = tt
+bytes-of (v ∷ vs) h = (h v (inl refl), bytes-of vs (λ w i. h w (inr i)))
+
+bytes-append : (xs ys : List ℕ) → Bytes xs → Bytes ys → Bytes (xs ++ ys)
+bytes-append [] ys b d = d
+bytes-append (x ∷ xs) ys b d = (b .0, bytes-append xs ys (b .1) d)
+
+stored-bytes : (plan : List (List ℕ)) → ((vs : List ℕ) → In vs plan → (length vs < 65536) × ((w : ℕ) → In w vs → w < 256)) → Bytes (stored plan)
+stored-bytes [] h = tt
+stored-bytes (vs ∷ plan) h =
+    let k = h vs (inl refl) in
+    bytes-append (storedRun vs) (stored plan) (omega arith, (omega (arith, k .0), bytes-of vs (k .1))) (stored-bytes plan (λ ws i. h ws (inr i)))
+
+module _ {m : Machine} (ok : Sound m) where
+  -- a run of a plan has no more settings than there are couples
+  run-short : {t : ℕ} {plan : List (List ℕ)} → Plan m t plan → (vs : List ℕ) → In vs plan → length vs ≤ couples m
+  run-short empty vs i = absurd i
+  run-short (pass x f) vs i = run-short x vs i
+  run-short (add {plan = plan} {vs = ws} x n r) vs i =
+      ⊎-elim (λ j. run-short x vs j) (⊎-elim (λ e. subst (λ l. length l ≤ couples m) (sym e) (run-to-small ok r)) absurd) (in-either vs plan (ws ∷ []) i)
+
+  module _ (few-inputs : m .inputs ≤ mostInputs) (few-states : m .states ≤ mostStates) where
+    few : couples m ≤ mostCouples
+    few = couples-bound _ _ few-states (settings-bound few-inputs)
+
+    plan-bytes : {bytes : List ℕ} → PlanBytes m bytes → Bytes bytes
+    plan-bytes (plan, x, e) = subst Bytes (sym e) (stored-bytes plan (λ vs i.
+        (omega (arith, run-short x vs i, few), λ w j. omega (arith, run-below m vs (plan-runs x vs i) w j, settings-bound few-inputs))))
+
+    pub sheet-fits : {ranks bytes : List ℕ} → RanksOf m ranks → PlanBytes m bytes → length bytes ≤ planRoom
+        → length (sheetText (m .inputs) (m .states) ranks bytes) ≤ textRoom
+    sheet-fits {ranks} {bytes} r b l =
+        let low = ranks-low (couples m) ranks (λ c h. ⊎-elim (λ x. inl (rank-small ok (x .1))) (λ x. inr (x .0)) (r .each c (omega (arith, r .whole)))) in
+        omega (
+          arith,
+          few,
+          r .whole,
+          sheet-room (m .inputs) (m .states) ranks bytes (omega arith) (omega arith) (omega (arith, few, r .whole)) (omega (arith, r .whole)) (omega arith) (plan-bytes b),
+        )
+
+pub refusal-fits : (number place : ℕ) → number < 256 → place < 2 ^ 64 → length (refusalText number place) ≤ textRoom
+refusal-fits number place n p = omega (arith, refusal-room number place (omega arith) (omega arith))
+
+-- a text that has room is written whole
+pub written-whole : {text before after : List ℕ} {answer : Written} → Writes text answer before after → length text ≤ length before → Whole answer
+written-whole {text} {before} w h = subst Whole (sym (w .answered ∙ written-fits text before h)) tt
+
+pub writes-all : {text before after : List ℕ} {answer : Written} {n : ℕ} → Writes text answer before after → answer ≡ All n → Writes text (All n) before after
+writes-all {text} {before} {after} w e = subst (λ a. Writes text a before after) e w
