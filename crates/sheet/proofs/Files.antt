@@ -5,27 +5,25 @@ use mathlib.Core.List.{List}
 use mathlib.Core.Logic.{inl}
 use Prim.Native.Nat.{ℕ, _*_, _-_, _^_, _≤_, _<_}
 use native.Mathlib.Omega.{arith}
-use lib.ListN.{length, getD, take}
+use lib.ListN.{length, take}
 use lib.Seq.{ext-getD, getD-take, length-take-le}
-use lib.Arith.{digits-lt}
 use lib.Pow.{pow-pos}
 use Rattle.verdict.specs.Checks.{None, Unless, Passed, Judged}
 use Rattle.verdict.specs.declared.Answer.{Answer}
 use Rattle.verdict.proofs.Tests.{meets}
 use Rattle.verdict.proofs.Order.{Passes, judged-passes, judged-done, same-answer, pass, ends, long}
-use Rattle.machine.specs.Limits.{mostInputs, mostStates, mostSettings, mostCouples}
-use Rattle.machine.specs.Couples.{coupleAt, Couple}
+use Rattle.machine.specs.Limits.{mostInputs, mostStates, mostCouples}
 use Rattle.machine.specs.Moves.{tableMoves, Stateless, Transient, Start}
 use Rattle.machine.specs.Runs.{Machine, machine}
 use Rattle.machine.proofs.Couples.{settings-bound, couples-bound, couple-of, couple-below}
-use Rattle.machine.proofs.Same.{Into, transient-into, start-into}
+use Rattle.machine.proofs.Same.{transient-into, start-into}
 use Rattle.tables.specs.Tables.{Sized}
 use Rattle.specification.specs.Limits.{mostEvolutions}
 use Rattle.specification.specs.Records.{sizesOf, settings, couples, Sized as FileSized}
-use Rattle.specification.specs.Rules.{Moves, MoveAt}
-use Rattle.specification.specs.Reading.{fileChecks, contentsOf, ReadHere}
+use Rattle.specification.specs.Rules.{TwoRules, MoveAt}
+use Rattle.specification.specs.Reading.{fileChecks, ReadHere}
 use Rattle.specification.specs.declared.Contents.{Contents}
-use Rattle.specification.proofs.Settling.{leads-below, same-move}
+use Rattle.specification.proofs.Settling.{leads-below, same-move, Tabled, table-into, into-table, states-only}
 use Rattle.sheet.specs.Printed.{Answers, accepted, TableOf, machineOf, PlanText, SheetOf, read}
 use Rattle.sheet.specs.Steps.{textRoom, Markable, Ready}
 
@@ -44,7 +42,7 @@ module _ {file : List ℕ} (v : Answers file accepted) where
   in-range : {a b : ℕ} → (FileSized file → a ≤ b) → a ≤ b
   in-range {a} {b} f = let g : b < a → ⊥ = λ h. passed .1 .0 .nowhere 0 (refl, λ s. let k = f s in omega arith) in omega arith
 
-  pub sized : Sized ((sizesOf file) .inputs) ((sizesOf file) .states) ((sizesOf file) .initial)
+  pub sized : Sized (sizesOf file .inputs) (sizesOf file .states) (sizesOf file .initial)
   sized = record {
     some-input = in-range (λ s. s .ranges .some-input);
     few-inputs = in-range (λ s. s .ranges .few-inputs);
@@ -55,49 +53,38 @@ module _ {file : List ℕ} (v : Answers file accepted) where
   pub couples-few : couples (sizesOf file) ≤ mostCouples
   couples-few = couples-bound _ _ (sized .few-states) (settings-bound (sized .few-inputs))
 
-  -- a move is a state, and one
-  move-below : {s v x : ℕ} → Moves file (sizesOf file) s v x → x < (sizesOf file) .states
-  move-below y = subst (λ x. x < (sizesOf file) .states) (y .leads) (leads-below file (sizesOf file) (passed .1 .1 .1 .1 .1 .0) _ (y .fires .below))
-
-  one-move : {s v x y p : ℕ} → Couple ((sizesOf file) .states) m s v p → Moves file (sizesOf file) s v x → Moves file (sizesOf file) s v y → x ≡ y
-  one-move k a b = same-move file (sizesOf file) (passed .1 .1 .1 .1 .1 .1 .1 .1 .1 .0) k a b
+  -- no two rules hold at a couple, so that its move is one
+  single : None (TwoRules file (sizesOf file) m)
+  single = passed .1 .1 .1 .1 .1 .1 .1 .1 .1 .0
 
   pub table-once : {t u : List ℕ} → TableOf file t → TableOf file u → t ≡ u
   table-once {t} {u} x y =
       ext-getD 0 t u (x .whole ∙ sym (y .whole)) (λ p h.
       let l : p < couples (sizesOf file) = omega (arith, x .whole) in
-      let k = couple-of p (pow-pos ((sizesOf file) .inputs)) l in
-      one-move k (x .each p l .move _ _ k) (y .each p l .move _ _ k))
+      let k = couple-of p (pow-pos (sizesOf file .inputs)) l in
+      same-move file (sizesOf file) single k (x .each p l .move _ _ k) (y .each p l .move _ _ k))
 
   module _ {table : List ℕ} (t : TableOf file table) where
-    here : (s v : ℕ) → s < (sizesOf file) .states → v < m → Moves file (sizesOf file) s v (getD table (coupleAt m s v) 0)
-    here s v h k = t .each _ (digits-lt h k) .move s v (record { state = h; setting = k; number = refl })
-
-    table-into : Into ((sizesOf file) .states) m (tableMoves table m) (Moves file (sizesOf file))
-    table-into = record {
-      to = λ s v x h k e. subst (Moves file (sizesOf file) s v) e (here s v h k);
-      inside = λ s v x h k e. move-below (subst (Moves file (sizesOf file) s v) e (here s v h k));
+    tabled : Tabled file (sizesOf file) m table
+    tabled = record {
+      leads = leads-below file (sizesOf file) (passed .1 .1 .1 .1 .1 .0);
+      single = single;
+      long = omega (arith, t .whole);
+      moves = t .each;
     }
 
-    into-table : Into ((sizesOf file) .states) m (Moves file (sizesOf file)) (tableMoves table m)
-    into-table = record {
-      to = λ s v x h k y. one-move (record { state = h; setting = k; number = refl }) (here s v h k) y;
-      inside = λ s v x h k y. move-below y;
-    }
+    -- refusals 4, 10 and 13
+    closed : None (Stateless table (sizesOf file .states) m)
+    closed = record { nowhere = λ p x. let b = x .beyond in omega (arith, states-only tabled (pow-pos (sizesOf file .inputs)) p (couple-below (x .couple))) }
 
-    stateless : None (Stateless table ((sizesOf file) .states) m)
-    stateless = record { nowhere = λ p x. let k = x .couple in let l = move-below (t .each p (couple-below k) .move _ _ k) in let b = x .beyond in omega arith }
+    settles : None (Transient (tableMoves table m) (sizesOf file .states) m)
+    settles = record { nowhere = λ p x. passed .1 .1 .1 .1 .1 .1 .1 .1 .1 .1 .1 .0 .nowhere p (transient-into (table-into tabled) (into-table tabled) p x) }
 
-    calm : None (Transient (tableMoves table m) ((sizesOf file) .states) m)
-    calm = record { nowhere = λ p x. passed .1 .1 .1 .1 .1 .1 .1 .1 .1 .1 .1 .0 .nowhere p (transient-into table-into into-table p x) }
-
-    starts : None (Unless (Start (tableMoves table m) m ((sizesOf file) .initial)))
-    starts = record { nowhere = λ p x. passed .1 .1 .1 .1 .1 .1 .1 .1 .1 .1 .1 .1 .1 .1 .0 .nowhere p (x .0, λ y. x .1 (start-into into-table (sized .begins) y)) }
+    starts : None (Unless (Start (tableMoves table m) m (sizesOf file .initial)))
+    starts = record { nowhere = λ p x. passed .1 .1 .1 .1 .1 .1 .1 .1 .1 .1 .1 .1 .1 .1 .0 .nowhere p (x .0, λ y. x .1 (start-into (into-table tabled) (sized .begins) y)) }
 
     pub markable : Markable (machineOf file table)
-    markable =
-        let l : couples (sizesOf file) ≤ length table = omega (arith, t .whole) in
-        record { verdict = pass (meets sized) (pass (long l) (pass (long couples-few) (pass stateless (pass calm (pass starts ends))))) }
+    markable = record { verdict = pass (meets sized) (pass (long (tabled .long)) (pass (long couples-few) (pass closed (pass settles (pass starts ends))))) }
 
 -- the same of what reading left, with room for every table and all words
 module _ {file table₀ words₀ table₁ words₁ : List ℕ} {r : Contents} (u : ReadHere file table₀ words₀ mostEvolutions r table₁ words₁)

@@ -5,16 +5,16 @@ use mathlib.Core.Logic.{inl}
 use mathlib.Core.List.{List, [], _∷_, _++_}
 use Prim.Native.Nat.{ℕ, _-_, _≤_, _<_}
 use native.Mathlib.Omega.{arith}
-use lib.ListN.{length, getD, take, drop, length-take}
+use lib.ListN.{length, take, length-take}
 use lib.Seq.{ext-getD, getD-take, length-take-le}
-use Rattle.verdict.specs.Checks.{Check, check, Then, refused, next, Verdict, Passed, Judged}
+use Rattle.verdict.specs.Checks.{Check, check, Then, refused, next, Verdict}
 use Rattle.verdict.specs.declared.Answer.{Answer}
 use Rattle.verdict.proofs.Order.{Passes, judged-passes}
 use Rattle.machine.specs.Limits.{mostCouples}
 use Rattle.machine.specs.Runs.{Machine, machine, couples, Sound, RankOrUnmarked}
 use Rattle.marking.specs.Marking.{markChecks}
 use Rattle.marking.proofs.Once.{rank-only}
-use Rattle.plan.specs.Planning.{PlanBytes, ShortPlan, planChecks, PlanDone, PlannedAs}
+use Rattle.plan.specs.Planning.{PlanBytes, ShortPlan, PlanDone, PlannedAs}
 use Rattle.plan.proofs.Marked.{sized, sound as sound-of, ranks-long}
 use Rattle.plan.proofs.Outcomes.{bytes-unique}
 use Rattle.plan.proofs.Held.{plan-held}

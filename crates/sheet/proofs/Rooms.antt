@@ -1,14 +1,14 @@
 -- Every text that is printed has room: ranks are below the number of couples, the runs of a plan have no more settings than there are
 -- couples and each setting is a byte, and numbers are words of the machine.
 use mathlib.Core.Path.{_≡_, refl, sym, subst, _∙_}
-use mathlib.Core.Logic.{_⊎_, inl, inr, ⊎-elim}
+use mathlib.Core.Logic.{inl, inr, ⊎-elim}
 use mathlib.Core.List.{List, [], _∷_, _++_}
-use Prim.Native.Nat.{ℕ, _+_, _*_, _/_, _%_, _^_, _≤_, _<_}
+use Prim.Native.Nat.{ℕ, _^_, _≤_, _<_}
 use native.Mathlib.Omega.{arith}
-use lib.ListN.{length, getD}
-use Rattle.machine.specs.Limits.{mostInputs, mostStates, mostSettings, mostCouples}
+use lib.ListN.{length}
+use Rattle.machine.specs.Limits.{mostInputs, mostStates, mostCouples}
 use Rattle.machine.specs.Lists.{In}
-use Rattle.machine.specs.Runs.{Machine, size, couples, Sound}
+use Rattle.machine.specs.Runs.{Machine, couples, Sound}
 use Rattle.machine.specs.Plans.{Plan, empty, pass, add, storedRun, stored}
 use Rattle.machine.proofs.Couples.{settings-bound, couples-bound}
 use Rattle.machine.proofs.Members.{in-either}
