@@ -1,4 +1,4 @@
--- What an update comes to, by the tests of the log and the words: the four cases of `updateOf`. Assumes nothing.
+-- What an update comes to, by the tests of the log and the words: the four cases of `updateOf`.
 use Prim.Native.Nat.{_+_, _≤_, _<_}
 use native.Mathlib.Nat.{add-zero}
 use mathlib.Core.Path.{_≡_}

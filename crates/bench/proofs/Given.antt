@@ -1,4 +1,4 @@
--- The plain parameters that a reading is given by, for every walk that takes them: their types, arguments and machine values, and that they stay as they are. Assumes nothing.
+-- The plain parameters that a reading is given by, for every walk that takes them: their types, arguments and machine values, and that they stay as they are.
 use mathlib.Core.Path.{refl}
 use Prim.Native.Nat.{ℕ}
 use mathlib.Core.List.{[], _∷_, List}

@@ -1,5 +1,4 @@
 -- From a fresh log, any list of updates leaves the log of its history. The argument: `logOf` is the log that accepted readings make; it is sound, an accepted update of it is that of one reading more, and a refused one is itself.
--- Assumes nothing.
 use Prim.Native.Nat.{ℕ, zero, suc, _+_, _≤_, _<_, min}
 use native.Mathlib.Omega.{arith}
 use native.Mathlib.Nat.{add-zero}

@@ -1,4 +1,4 @@
--- An update has one outcome: number and kind tell the four answers apart, so its answer and the log after it are fixed by the log before and the reading. Assumes nothing.
+-- An update has one outcome: number and kind tell the four answers apart, so its answer and the log after it are fixed by the log before and the reading.
 use mathlib.Core.Path.{_≡_, refl, sym, ap, _∙_}
 use mathlib.Core.Bool.{cond}
 use lib.Dec.{eqb}

@@ -1,4 +1,4 @@
--- What the tests `sound` and `refuses` say of a log's counts, and that an update keeps a sound log sound: by whether it is refused, its words differ, and the log has room. Assumes nothing.
+-- What the tests `sound` and `refuses` say of a log's counts, and that an update keeps a sound log sound: by whether it is refused, its words differ, and the log has room.
 use Prim.Native.Nat.{_≤_, min}
 use native.Mathlib.Omega.{arith}
 use mathlib.Core.Path.{_≡_, refl}

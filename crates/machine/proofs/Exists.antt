@@ -1,4 +1,5 @@
--- Every marked couple has a rank and a run to it. Assumes nothing.
+-- Every marked couple has a rank and a run to it: whether a run with exactly k changes visits it is decided by recursion on k, and the
+-- least such k is searched for.
 use mathlib.Core.Path.{_≡_, refl, sym, ap, ap₂, subst, subst₂, _∙_}
 use mathlib.Core.Logic.{_⊎_, ⊎-elim, inl, inr}
 use mathlib.Core.List.{List, [], _∷_}

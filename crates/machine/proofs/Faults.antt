@@ -1,4 +1,4 @@
--- A list of settings is a run where, and only where, it has no fault. Assumes nothing.
+-- A list of settings is a run where, and only where, it has no fault: by induction on the list.
 use mathlib.Core.Path.{_≡_, refl, sym, ap, subst, _∙_}
 use mathlib.Core.Logic.{_⊎_, _↔_, ⊎-elim, inl, inr}
 use mathlib.Core.List.{List, [], _∷_}

@@ -1,4 +1,5 @@
--- A setting with one input flipped, and settings that differ in one input. Assumes nothing.
+-- A setting with one input flipped differs in that input alone, and two settings that differ in one input are such: by induction on the
+-- number of inputs.
 use mathlib.Core.Path.{_≡_, refl, sym, ap, ap₂, _∙_}
 use mathlib.Core.Logic.{⊎-elim}
 use Prim.Native.Nat.{ℕ, zero, suc, _+_, _*_, _-_, _/_, _%_, _^_, _≤_, _<_}

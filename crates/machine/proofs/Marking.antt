@@ -1,4 +1,5 @@
--- The computation of a round does what a round does. Assumes nothing.
+-- The computation of a round does what a round does: each function of the model gives ranks to the couples that it names, and the
+-- givings join.
 use mathlib.Core.Path.{_≡_, refl, sym, ap, subst, subst₂, _∙_}
 use mathlib.Core.Logic.{_⊎_, ⊎-elim, inl, inr}
 use mathlib.Core.List.{List, [], _∷_}
@@ -11,6 +12,7 @@ use lib.Dec.{eqb}
 use lib.Pow.{pow-pos, high}
 use lib.Arith.{digits-lt}
 use borrow.Author.Tests.{eq-eqb, ne-eqb}
+use Rattle.machine.specs.Limits.{unmarked}
 use Rattle.machine.specs.Lists.{pick}
 use Rattle.machine.specs.Flips.{flipped}
 use Rattle.machine.specs.Runs.{Machine, machine, size, couples, couple, move, Sound, Starts}
@@ -38,24 +40,24 @@ Gives By r p M N = (c : ℕ) → Given By r p (M .ranks) (M .parents) (N .ranks)
 gave-long : {t : ℕ} (M : Marks) (c r p : ℕ) → Long t M → Long t (gave M c r p)
 unfolding gave
 gave-long M c r p l = ⊎-elim
-    (λ e. rw (eq-eqb (getD (M .ranks) c 0) 65535 e) (record { ranks = rw length-set (l .ranks); parents = rw length-set (l .parents) }))
-    (λ e. rw (ne-eqb (getD (M .ranks) c 0) 65535 e) l)
-    (equal-or (getD (M .ranks) c 0) 65535)
+    (λ e. rw (eq-eqb (getD (M .ranks) c 0) unmarked e) (record { ranks = rw length-set (l .ranks); parents = rw length-set (l .parents) }))
+    (λ e. rw (ne-eqb (getD (M .ranks) c 0) unmarked e) l)
+    (equal-or (getD (M .ranks) c 0) unmarked)
 
 gave-gives : {t : ℕ} (M : Marks) (c r p : ℕ) → Long t M → c < t → Gives (λ d. d ≡ c) r p M (gave M c r p)
 unfolding gave
 gave-gives M c r p l h d = ⊎-elim
-    (λ e. rw (eq-eqb (getD (M .ranks) c 0) 65535 e) (give-one c (lt-of-lt-of-le h (l .ranks)) (lt-of-lt-of-le h (l .parents)) e d))
-    (λ e. rw (ne-eqb (getD (M .ranks) c 0) 65535 e) (give-none (λ q f. e (ap (λ (x : ℕ). getD (M .ranks) x 0) (sym q) ∙ f))))
-    (equal-or (getD (M .ranks) c 0) 65535)
+    (λ e. rw (eq-eqb (getD (M .ranks) c 0) unmarked e) (give-one c (lt-of-lt-of-le h (l .ranks)) (lt-of-lt-of-le h (l .parents)) e d))
+    (λ e. rw (ne-eqb (getD (M .ranks) c 0) unmarked e) (give-none (λ q f. e (ap (λ (x : ℕ). getD (M .ranks) x 0) (sym q) ∙ f))))
+    (equal-or (getD (M .ranks) c 0) unmarked)
 
 -- a rank k stands before a round where it stands within it
-was-rank : {m : Machine} {k t d : ℕ} {R P R′ P′ : List ℕ} → suc k < 65535 → Turned m k t R P R′ P′ d → getD R′ d 0 ≡ k → getD R d 0 ≡ k
+was-rank : {m : Machine} {k t d : ℕ} {R P R′ P′ : List ℕ} → suc k < unmarked → Turned m k t R P R′ P′ d → getD R′ d 0 ≡ k → getD R d 0 ≡ k
 was-rank h (kept ne e f) q = sym e ∙ q
 was-rank h (found g x e) q = absurd (omega arith)
 was-rank h (none g never e) q = absurd (omega arith)
 
-is-rank : {m : Machine} {k t d : ℕ} {R P R′ P′ : List ℕ} → suc k < 65535 → Turned m k t R P R′ P′ d → getD R d 0 ≡ k → getD R′ d 0 ≡ k
+is-rank : {m : Machine} {k t d : ℕ} {R P R′ P′ : List ℕ} → suc k < unmarked → Turned m k t R P R′ P′ d → getD R d 0 ≡ k → getD R′ d 0 ≡ k
 is-rank h (kept ne e f) q = e ∙ q
 is-rank h (found g x e) q = absurd (omega arith)
 is-rank h (none g never e) q = absurd (omega arith)
@@ -69,7 +71,7 @@ module _ (n states initial : ℕ) (T : List ℕ) where
     unfolding changed
     changed-long M s w r p l = gave-long _ _ r p (gave-long M _ r p l)
 
-    changed-gives : (M : Marks) (s w r p : ℕ) → r < 65535 → Long (couples m) M → s < states → w < size m
+    changed-gives : (M : Marks) (s w r p : ℕ) → r < unmarked → Long (couples m) M → s < states → w < size m
         → Gives (λ d. (d ≡ couple m s w) ⊎ (d ≡ couple m (move m s w) w)) r p M (changed T (size m) s w r p M)
     unfolding changed
     changed-gives M s w r p h l a b c =
@@ -86,7 +88,7 @@ module _ (n states initial : ℕ) (T : List ℕ) where
         let w = flipped (c % size m) (2 ^ i) in
         changed-long _ (c / size m) w r c (expanded-long M c r i l)
 
-    expanded-gives : (M : Marks) (c r i : ℕ) → r < 65535 → Long (couples m) M → c < couples m → i ≤ n → Gives (ByInputs c i) r c M (expanded T (size m) c r i M)
+    expanded-gives : (M : Marks) (c r i : ℕ) → r < unmarked → Long (couples m) M → c < couples m → i ≤ n → Gives (ByInputs c i) r c M (expanded T (size m) c r i M)
     unfolding expanded
     expanded-gives M c r zero h l b k d = give-none (λ x e. let z = x .1 in absurd (omega arith))
     expanded-gives M c r (suc i) h l b k d =
@@ -120,7 +122,7 @@ module _ (n states initial : ℕ) (T : List ℕ) where
         ap (λ (y : ℕ). getD T y 0) (x .here) ∙ x .rests ∙ sym (ap (λ (y : ℕ). y / size m) (x .here) ∙ high (x .state) n (x .below))
 
     -- all changes from a couple at rest
-    spread : (M : Marks) (c r : ℕ) → r < 65535 → Long (couples m) M → c < couples m → getD T c 0 ≡ c / size m → Gives (Steps m c) r c M (expanded T (size m) c r n M)
+    spread : (M : Marks) (c r : ℕ) → r < unmarked → Long (couples m) M → c < couples m → getD T c 0 ≡ c / size m → Gives (Steps m c) r c M (expanded T (size m) c r n M)
     spread M c r h l b e d = give-as
         (λ x. flip-steps n states initial T c d (x .0) (rests-at c e) (x .1) (x .2))
         (steps-flip n states initial T c d)
@@ -140,7 +142,7 @@ module _ (n states initial : ℕ) (T : List ℕ) where
         (λ e. rw (ne-eqb (getD (N .ranks) t 0) k e) h)
         (equal-or (getD (N .ranks) t 0) k)
 
-    pub rounded-turned : (M : Marks) (k : ℕ) → suc k < 65535 → Long (couples m) M → (t : ℕ) → t ≤ couples m → (c : ℕ)
+    pub rounded-turned : (M : Marks) (k : ℕ) → suc k < unmarked → Long (couples m) M → (t : ℕ) → t ≤ couples m → (c : ℕ)
         → Turned m k t (M .ranks) (M .parents) (rounded T (size m) n k t M .ranks) (rounded T (size m) n k t M .parents) c
     unfolding rounded turned
     rounded-turned M k h l zero b c = turned-none c
@@ -156,7 +158,7 @@ module _ (n states initial : ℕ) (T : List ℕ) where
         (equal-or (getD (N .ranks) t 0) k)
 
     -- the computed round is a round
-    pub rounded-round : (M : Marks) (k : ℕ) → suc k < 65535 → Long (couples m) M
+    pub rounded-round : (M : Marks) (k : ℕ) → suc k < unmarked → Long (couples m) M
         → Round m k (M .ranks) (M .parents) (rounded T (size m) n k (couples m) M .ranks) (rounded T (size m) n k (couples m) M .parents)
     rounded-round M k h l c _ = rounded-turned M k h l (couples m) (le-refl _) c
 
@@ -198,7 +200,7 @@ module _ (n states initial : ℕ) (T : List ℕ) where
         fewer : (Starts m t → ⊥) → ByStarts (suc t) d → ByStarts t d
         fewer n (v, h, x, e) = ⊎-elim (λ q. absurd (n (subst (Starts m) q x))) (λ (q : v ≡ t → ⊥). (v, omega arith, x, e)) (equal-or v t)
 
-    begun : (M : Marks) → Long (couples m) M → ((c : ℕ) → c < couples m → getD (M .ranks) c 0 ≡ 65535) → Started m (started T (size m) initial (size m) M .ranks)
+    begun : (M : Marks) → Long (couples m) M → ((c : ℕ) → c < couples m → getD (M .ranks) c 0 ≡ unmarked) → Started m (started T (size m) initial (size m) M .ranks)
     unfolding ByStarts
     begun M l clear = give-starts clear (λ c _. give-as (λ (v, h, x, e). (v, x, e)) (λ (v, x, e). (v, x .below, x, e)) (begun-gives M (size m) l (le-refl _) c))
 
@@ -208,12 +210,12 @@ module _ (n states initial : ℕ) (T : List ℕ) where
     marks-long (suc k) = rounded-long _ k (couples m) (marks-long k)
 
     -- after k rounds: each rank up to k, with its parent
-    pub marks-level : couples m ≤ 65535 → (k : ℕ) → k < 65535 → Level m k (marks n states initial T k .ranks) (marks n states initial T k .parents)
+    pub marks-level : couples m ≤ unmarked → (k : ℕ) → k < unmarked → Level m k (marks n states initial T k .ranks) (marks n states initial T k .parents)
     unfolding marks
-    marks-level few zero h = level-start ok _ _ (begun _ (record { ranks = rw length-replicate (le-refl _); parents = rw length-replicate (le-refl _) }) (λ c l. getD-replicate (couples m) c 65535 0 l))
+    marks-level few zero h = level-start ok _ _ (begun _ (record { ranks = rw length-replicate (le-refl _); parents = rw length-replicate (le-refl _) }) (λ c l. getD-replicate (couples m) c unmarked 0 l))
     marks-level few (suc k) h = level-next ok k _ _ (marks-level few k (omega arith)) few (omega arith) _ _ (rounded-round _ k h (marks-long k))
 
     -- and all of them where none is k
-    pub marks-listed : couples m ≤ 65535 → (k : ℕ) → k < 65535 → ((c : ℕ) → c < couples m → getD (marks n states initial T k .ranks) c 0 ≡ k → ⊥)
+    pub marks-listed : couples m ≤ unmarked → (k : ℕ) → k < unmarked → ((c : ℕ) → c < couples m → getD (marks n states initial T k .ranks) c 0 ≡ k → ⊥)
         → Listed m (marks n states initial T k .ranks) (marks n states initial T k .parents)
     marks-listed few k h empty = level-last ok k _ _ (marks-level few k h) few empty

@@ -1,4 +1,5 @@
--- The plan is one plan, visits every marked couple and no other, and is what the computation gives. Assumes nothing.
+-- The plan is one plan, visits every marked couple and no other, and is what the computation gives: by induction on the couples gone
+-- through.
 use mathlib.Core.Path.{_≡_, refl, sym, ap, ap₂, subst, subst₂, _∙_}
 use mathlib.Core.Logic.{_⊎_, _↔_, ⊎-elim, inl, inr}
 use mathlib.Core.List.{List, [], _∷_, _++_}
@@ -9,6 +10,7 @@ use native.Mathlib.Omega.{arith}
 use lib.ListN.{length, getD}
 use lib.Dec.{eqb}
 use borrow.Author.Tests.{eq-eqb, ne-eqb}
+use Rattle.machine.specs.Limits.{unmarked}
 use Rattle.machine.specs.Lists.{In, pick}
 use Rattle.machine.specs.Runs.{Machine, size, couples, couple, move, Sound, Run, visits, Visitor, Marked, Rank, RankOrUnmarked}
 use Rattle.machine.specs.Shortest.{RunTo, Parent}
@@ -91,7 +93,7 @@ module _ {m : Machine} (marked : ℕ → Bool) (runTo : ℕ → List ℕ) where
 module _ {m : Machine} (ok : Sound m) where
   pub listed-plan : (ranks parents : List ℕ) → Listed m ranks parents → Plan m (couples m) (planOf m ranks parents)
   listed-plan ranks parents x = planned-plan _ _ (couples m) (λ c l. ⊎-elim
-      (λ r. inl (rw (ne-eqb (getD ranks c 0) 65535 (λ e. omega (arith, r .0))) refl, followed-run ok (λ d. getD parents d 0) (x .parent) (getD ranks c 0) c (r .1)))
+      (λ r. inl (rw (ne-eqb (getD ranks c 0) unmarked (λ e. omega (arith, r .0))) refl, followed-run ok (λ d. getD parents d 0) (x .parent) (getD ranks c 0) c (r .1)))
       (λ r. inr (rw (r .0) refl, r .1))
       (x .rank c l))
 

@@ -1,5 +1,5 @@
--- The board theorem: matching readings on every run of a plan that visits all marked couples, and equal moves at these.
--- Assumes nothing.
+-- The board theorem: matching readings on every run of a plan that visits all marked couples, and equal moves at these. Both boards are
+-- followed along a run; words that differ tell the states apart.
 use mathlib.Core.Path.{_≡_, refl, sym, ap, ap₂, subst, _∙_}
 use mathlib.Core.Logic.{_⊎_, _↔_, ⊎-elim, inl, inr}
 use mathlib.Core.List.{List, [], _∷_}

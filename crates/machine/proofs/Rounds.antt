@@ -1,4 +1,5 @@
--- The laws of rounds. Assumes nothing.
+-- The laws of rounds: what holds after k rounds holds after one more, since a couple of rank k + 1 has a parent of rank k, and a round
+-- that finds none ends it.
 use mathlib.Core.Path.{_≡_, refl, sym, ap, subst, subst₂, _∙_}
 use mathlib.Core.Logic.{_⊎_, ⊎-elim, inl, inr}
 use mathlib.Core.List.{List, [], _∷_}
@@ -6,6 +7,7 @@ use Prim.Native.Nat.{ℕ, zero, suc, _+_, _*_, _-_, _^_, _≤_, _<_, zero-le}
 use native.Mathlib.Nat.{le-refl}
 use native.Mathlib.Omega.{arith}
 use lib.ListN.{length, getD}
+use Rattle.machine.specs.Limits.{unmarked}
 use Rattle.machine.specs.Runs.{Machine, couples, couple, Sound, Rank, Marked, RankOrUnmarked}
 use Rattle.machine.specs.Shortest.{Steps, Parent}
 use Rattle.machine.specs.Model.{Listed}
@@ -30,7 +32,7 @@ least-more {t = t} x = record {
 -- a round's loop over the couples
 module _ {m : Machine} {k : ℕ} {R P : List ℕ} where
   pub turned-none : (c : ℕ) → Turned m k 0 R P R P c
-  turned-none c = ⊎-elim (λ e. none e (λ p l. absurd (omega arith)) e) (λ e. kept e refl refl) (equal-or (getD R c 0) 65535)
+  turned-none c = ⊎-elim (λ e. none e (λ p l. absurd (omega arith)) e) (λ e. kept e refl refl) (equal-or (getD R c 0) unmarked)
 
   -- past a couple that is not of rank k, or does not rest
   pub turned-skip : {t c : ℕ} {R′ P′ : List ℕ} → (Steps m t c → getD R t 0 ≡ k → ⊥) → Turned m k t R P R′ P′ c → Turned m k (suc t) R P R′ P′ c
@@ -40,7 +42,7 @@ module _ {m : Machine} {k : ℕ} {R P : List ℕ} where
       (λ p l s f. ⊎-elim (λ q. n (subst (λ (d : ℕ). Steps m d c) q s) (ap (λ (d : ℕ). getD R d 0) (sym q) ∙ f)) (λ (q : p ≡ t → ⊥). never p (omega arith) s f) (equal-or p t)) e
 
   -- past one that is
-  pub turned-spread : {t c : ℕ} {R′ P′ R″ P″ : List ℕ} → suc k < 65535 → getD R t 0 ≡ k
+  pub turned-spread : {t c : ℕ} {R′ P′ R″ P″ : List ℕ} → suc k < unmarked → getD R t 0 ≡ k
       → Turned m k t R P R′ P′ c → Given (Steps m t) (suc k) t R′ P′ R″ P″ c → Turned m k (suc t) R P R″ P″ c
   turned-spread h r (kept ne e f) (given s g a b) = absurd (ne (sym e ∙ g))
   turned-spread h r (kept ne e f) (same n a b) = kept ne (a ∙ e) (b ∙ f)
@@ -71,14 +73,14 @@ module _ {m : Machine} (ok : Sound m) where
         go (ranked y h p) = rank-unique y x
         go (unranked e n) = absurd (omega (arith, n r x))
 
-    listed-is : (c : ℕ) → c < couples m → getD R c 0 ≡ k → k < 65535 → Rank m c k
+    listed-is : (c : ℕ) → c < couples m → getD R c 0 ≡ k → k < unmarked → Rank m c k
     listed-is c l e h = go (level c l)
       where
         go : Ranked m k R P c → Rank m c k
         go (ranked y _ p) = subst (Rank m c) e y
         go (unranked f n) = absurd (omega arith)
 
-    pub level-next : couples m ≤ 65535 → k < 65535 → (R′ P′ : List ℕ) → Round m k R P R′ P′ → Level m (suc k) R′ P′
+    pub level-next : couples m ≤ unmarked → k < unmarked → (R′ P′ : List ℕ) → Round m k R P R′ P′ → Level m (suc k) R′ P′
     level-next few h R′ P′ round c l = go (round c l) (level c l)
       where
         go : Turned m k (couples m) R P R′ P′ c → Ranked m k R P c → Ranked m (suc k) R′ P′ c
@@ -99,7 +101,7 @@ module _ {m : Machine} (ok : Sound m) where
             (equal-or r (suc k)))
 
     -- where no couple has rank k after round k, the lists are complete
-    pub level-last : couples m ≤ 65535 → ((c : ℕ) → c < couples m → getD R c 0 ≡ k → ⊥) → Listed m R P
+    pub level-last : couples m ≤ unmarked → ((c : ℕ) → c < couples m → getD R c 0 ≡ k → ⊥) → Listed m R P
     level-last few empty = record { rank = λ c l. rank c (level c l); parent = λ r c x. parent r c x (level c (rank-below x)) }
       where
         high : {c r : ℕ} → Rank m c r → r < k
@@ -119,7 +121,7 @@ module _ {m : Machine} (ok : Sound m) where
         parent r c x (unranked e n) = absurd (omega (arith, n (suc r) x, high x))
 
     -- no couple has a rank that is not below the number of couples
-    pub level-ends : couples m ≤ k → k < 65535 → (c : ℕ) → c < couples m → getD R c 0 ≡ k → ⊥
+    pub level-ends : couples m ≤ k → k < unmarked → (c : ℕ) → c < couples m → getD R c 0 ≡ k → ⊥
     level-ends few h c l e = omega (arith, rank-small ok (listed-is c l e h))
 
   pub level-start : (R P : List ℕ) → Started m R → Level m 0 R P

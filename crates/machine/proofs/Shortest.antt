@@ -1,4 +1,4 @@
--- The run to a couple is one run, and parents lead to it. Assumes nothing.
+-- The run to a couple is one run, and following parents leads to it: by induction on the rank, comparing trails from the last couple.
 use mathlib.Core.Path.{_≡_, refl, sym, ap, ap₂, subst, subst₂, _∙_}
 use mathlib.Core.Logic.{_⊎_, ⊎-elim, inl, inr}
 use mathlib.Core.List.{List, [], _∷_}

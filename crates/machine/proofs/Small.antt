@@ -1,4 +1,4 @@
--- A rank is below the number of couples. Assumes nothing.
+-- A rank is below the number of couples: the resting couples of a shortest run all differ.
 use mathlib.Core.Path.{_≡_, refl, sym, ap, subst, _∙_}
 use mathlib.Core.Logic.{_⊎_, ⊎-elim, inl, inr}
 use mathlib.Core.List.{List, [], _∷_}

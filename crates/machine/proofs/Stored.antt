@@ -1,4 +1,4 @@
--- Stored runs split back in one way only. Assumes nothing.
+-- Stored runs split back in one way only: by induction on the runs, each count telling where its run ends.
 use mathlib.Core.Path.{_≡_, refl, sym, ap, ap₂, subst, _∙_}
 use mathlib.Core.Logic.{_⊎_, ⊎-elim, inl, inr}
 use mathlib.Core.List.{List, [], _∷_, _++_, append-assoc, append-nil}

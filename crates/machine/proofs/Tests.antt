@@ -1,4 +1,4 @@
--- Tests that tell whether a statement holds; tests of starts, changes and steps. Assumes nothing.
+-- Tests that tell whether a statement holds, and tests of starts, changes and steps: each from the tests of its parts.
 use mathlib.Core.Path.{_≡_, refl, sym, ap, subst, _∙_}
 use mathlib.Core.Logic.{_⊎_, ⊎-elim, inl, inr}
 use mathlib.Core.Bool.{Bool, true, false, not}

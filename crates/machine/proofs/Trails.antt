@@ -1,4 +1,5 @@
--- A run by its resting couples, from the last change back to the start. Assumes nothing.
+-- A run by its resting couples, from the last change back to the start: each run has such a trail and each trail is that of a run, by
+-- induction on either.
 use mathlib.Core.Path.{_≡_, refl, sym, ap, ap₂, subst, subst₂, _∙_}
 use mathlib.Core.Logic.{_⊎_, ⊎-elim, inl, inr}
 use mathlib.Core.List.{List, [], _∷_}

@@ -1,5 +1,6 @@
-// A line on standard output: the name of a row, then numbers and words, a blank before each.
+// Lines on standard output: the name of a row, then numbers and words, a blank before each.
 use libc::STDOUT_FILENO;
+use verdict::Answer;
 
 pub(crate) fn name(row: &[u8]) {
     io::write_all(STDOUT_FILENO, row);
@@ -17,4 +18,35 @@ pub(crate) fn word(said: &[u8]) {
 
 pub(crate) fn end() {
     io::write_all(STDOUT_FILENO, b"\n");
+}
+
+// The number and the place of an answer, behind a bar.
+pub(crate) fn answer(a: Answer) {
+    word(b"|");
+    byte(a.number);
+    number(a.place as u64);
+}
+
+// What a buffer of bytes holds, behind a bar.
+pub(crate) fn bytes(buffer: &[u8]) {
+    word(b"|");
+    for i in 0..buffer.len() {
+        byte(buffer[i]);
+    }
+}
+
+fn byte(b: u8) {
+    number(b as u64);
+}
+
+// What a buffer of ranks, words or readings holds, behind a bar.
+pub(crate) fn values(buffer: &[u16]) {
+    word(b"|");
+    for i in 0..buffer.len() {
+        value(buffer[i]);
+    }
+}
+
+fn value(x: u16) {
+    number(x as u64);
 }

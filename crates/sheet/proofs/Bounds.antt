@@ -1,4 +1,4 @@
--- What an answer tells of the bytes that were moved: no more than the buffer has. Assumes nothing.
+-- What an answer tells of the bytes that were moved: no more than the buffer has.
 use mathlib.Core.Path.{_≡_, ap, subst, _∙_}
 use mathlib.Core.List.{List}
 use Prim.Native.Nat.{ℕ, _-_, _≤_}

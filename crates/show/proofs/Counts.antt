@@ -1,5 +1,5 @@
 -- Counts of ranks: of no couple, of one couple more, those of the marked couples, and the lines of equal counts.
--- By induction on the couples, and on the ranks. Assumes nothing.
+-- By induction on the couples, and on the ranks.
 use mathlib.Core.Path.{_≡_, refl, sym, ap, ap₂, _∙_}
 use mathlib.Core.Bool.{Bool, true, false, cond}
 use mathlib.Core.List.{List, [], _∷_, _++_}

@@ -1,4 +1,4 @@
--- Document 01's sheet of the lamp, and the line of a refusal, computed from the definitions. Assumes nothing.
+-- Document 01's sheet of the lamp, and the line of a refusal, computed from the definitions.
 use mathlib.Core.Path.{_≡_, refl}
 use mathlib.Core.List.{List, [], _∷_, _++_}
 use Prim.Native.Nat.{ℕ}

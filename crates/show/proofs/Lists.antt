@@ -1,4 +1,4 @@
--- What is left of a list, and its first element. Assumes nothing.
+-- What is left of a list, and its first element.
 use mathlib.Core.Path.{_≡_, ap, _∙_}
 use mathlib.Core.List.{List, _∷_}
 use Prim.Native.Nat.{ℕ, _+_, _-_, _≤_, _<_}

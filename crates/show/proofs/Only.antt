@@ -1,5 +1,5 @@
 -- Each public function has one outcome: two answers and buffers that keep its promise for one input are equal.
--- Both are computed from the text and the buffer lent. Assumes nothing.
+-- Both are computed from the text and the buffer lent.
 use mathlib.Core.Path.{_≡_, sym, _∙_}
 use mathlib.Core.List.{List}
 use Prim.Native.Nat.{ℕ}

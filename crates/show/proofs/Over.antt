@@ -1,4 +1,4 @@
--- A text over the front of a buffer: its length, one byte more, and what the answer tells. By induction on the text and the buffer. Assumes nothing.
+-- A text over the front of a buffer: its length, one byte more, and what the answer tells. By induction on the text and the buffer.
 use mathlib.Core.Path.{_≡_, refl, ap}
 use mathlib.Core.Bool.{Bool, true, false, cond}
 use mathlib.Core.List.{List, [], _∷_, _++_}

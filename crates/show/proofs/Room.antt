@@ -1,6 +1,6 @@
 -- The longest sheet: 46 bytes for the first line, 17 for each couple and 5 for each byte of the plan, with numbers of at most 5 digits.
 -- A number has as many digits as its tenth part and one more; a run's line has at most 5 bytes for each byte that stores it.
--- The line of a refusal has at most 33 bytes. By induction on the ranks, on the settings and on the runs. Assumes nothing.
+-- The line of a refusal has at most 33 bytes. By induction on the ranks, on the settings and on the runs.
 use mathlib.Core.Path.{_≡_, refl, sym, ap, _∙_}
 use mathlib.Core.Bool.{Bool, true, false, cond}
 use mathlib.Core.List.{List, [], _∷_, _++_, map}

@@ -1,5 +1,5 @@
 -- The runs that bytes hold, one after the other: the first run ends where its count says, at the latest with the bytes.
--- Reading more runs than the bytes hold makes no difference. Assumes nothing.
+-- Reading more runs than the bytes hold makes no difference.
 use mathlib.Core.Path.{_≡_, refl, sym, ap, ap₂, subst, _∙_}
 use mathlib.Core.List.{List, [], _∷_}
 use Prim.Native.Nat.{ℕ, zero, suc, _+_, _-_, _*_, _≤_, _<_}

@@ -1,4 +1,4 @@
--- Pieces written one behind the other: a byte, nothing, two pieces, and a text of which a part is written. Assumes nothing.
+-- Pieces written one behind the other: a byte, nothing, two pieces, and a text of which a part is written.
 use mathlib.Core.Path.{_≡_, refl, sym, ap, subst, _∙_}
 use mathlib.Core.List.{List, [], _∷_, _++_, append-assoc, append-nil}
 use Prim.Native.Nat.{ℕ, _+_, _≤_, _<_}

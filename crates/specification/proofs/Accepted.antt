@@ -6,7 +6,7 @@ use mathlib.Core.Logic.{inl}
 use Prim.Native.Nat.{ℕ, _*_, _^_, _≤_, _<_}
 use native.Mathlib.Nat.{not-le-of-lt}
 use native.Mathlib.Omega.{arith}
-use lib.ListN.{length, getD}
+use lib.ListN.{length}
 use lib.Pow.{pow-pos}
 use Rattle.verdict.specs.Checks.{None, Unless}
 use Rattle.verdict.proofs.Order.{Passes, judged-passes, roomy}

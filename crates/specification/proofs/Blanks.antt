@@ -1,7 +1,7 @@
 -- A local array of zero records, as a walk has it: what it takes to store it, to lend it as a slice, and to have the local again. The
 -- list is shut, so that no proof computes its elements.
 use mathlib.Core.Path.{_≡_, refl}
-use Prim.Native.Nat.{ℕ, zero, suc, _*_, _<_, _^_}
+use Prim.Native.Nat.{ℕ, zero, suc}
 use mathlib.Core.List.{List, [], _∷_}
 use lib.Dec.{T as Holds, lit<}
 use lib.ListN.{length, replicate, length-replicate}
@@ -19,7 +19,7 @@ use types.Share.{arr-parts}
 use denote.Shadow.{shadow}
 use denote.Laws.{Is}
 use denote.Memory.{mem, cellAt, partAt, partOf, shares}
-use denote.Array.{Array, arrayVal, each, shape, array-lawful, array-makes}
+use denote.Array.{Array, arrayVal, each, array-lawful, array-makes}
 use denote.ArrayMemory.{array-apart, array-whole}
 use denote.Slice.{Room}
 use denote.Index.{row, whole-out, whole-in}

@@ -10,7 +10,7 @@ use mathlib.Core.List.{List, [], _∷_, _++_}
 use lib.ListN.{length, getD, drop, replicate, replicate-append-replicate}
 use Rattle.specification.specs.Records.{sumTo, recordAt, source, textLength, sizesOf}
 use Rattle.specification.specs.Rules.{textAt}
-use Rattle.specification.specs.Evolutions.{evolutionOf, evolutions, blank, Handed}
+use Rattle.specification.specs.Evolutions.{evolutionOf, evolutions, blank}
 use Rattle.specification.specs.Filling.{placeOf, filledOf, filling, Fillable}
 use Rattle.specification.specs.Reading.{ReadAs}
 use Rattle.specification.specs.Private.{Laid, CoreAs}

@@ -2,13 +2,13 @@
 -- A rule holds because checks 8 and 9 passed. And its records are its evolutions, so that what is asked of a record is asked of the file.
 use mathlib.Core.Path.{_≡_, refl, sym, ap, subst, subst₂, _∙_}
 use mathlib.Core.Bool.{Bool}
-use mathlib.Core.List.{List, _++_}
+use mathlib.Core.List.{List}
 use mathlib.Core.Logic.{inl, ⊎-elim}
 use Prim.Native.Nat.{ℕ, zero, suc, _+_, _^_, _≤_, _<_}
 use native.Mathlib.Omega.{arith}
 use native.Mathlib.Numerals.{add-one}
 use native.Mathlib.Nat.{not-suc-le-zero, le-of-suc-le-suc, eq-or-lt-of-le}
-use lib.ListN.{length, getD, drop, length-append, List·getD-append}
+use lib.ListN.{length, getD, length-append, List·getD-append}
 use lib.Seq.{getD-at}
 use lib.Arith.{digits-lt}
 use Rattle.verdict.specs.Checks.{Decides}
@@ -16,7 +16,7 @@ use Rattle.verdict.proofs.Order.{judged-passes}
 use Rattle.verdict.proofs.Tests.{decides-map}
 use Rattle.machine.specs.Couples.{coupleAt, Couple}
 use Rattle.specification.specs.Records.{sizesOf, settings, records, textLength}
-use Rattle.specification.specs.Rules.{textAt, textOf, leadsTo, Holds, Fires}
+use Rattle.specification.specs.Rules.{textAt, textOf, Holds, OneRule}
 use Rattle.specification.specs.Evolutions.{evolutionOf, evolutions, blank, Met}
 use Rattle.specification.specs.Reading.{ReadHere, ReadAs}
 use Rattle.specification.specs.declared.Contents.{Contents}
@@ -26,19 +26,12 @@ use Rattle.specification.proofs.Laws.{sum-below, laid}
 use Rattle.specification.proofs.Once.{no-two-rules}
 use Rattle.specification.proofs.Settling.{same-rule}
 
--- exactly one rule of s holds at v, and x is its target
-pub record OneRule (file : List ℕ) (z : Sizes) (s v x : ℕ) : Type 0 where
-  pub rule : ℕ
-  pub fires : Fires file z s v rule
-  pub only : (r : ℕ) → Fires file z s v r → r ≡ rule
-  pub target : x ≡ leadsTo file z rule
-
 module _ {file table words : List ℕ} {room : ℕ} {r : Contents} {t w : List ℕ} (u : ReadHere file table words room r t w) (e : r .answer .number ≡ 0) where
   means : (s v : ℕ) → s < sizesOf file .states → v < settings (sizesOf file) → OneRule file (sizesOf file) s v (getD t (coupleAt (settings (sizesOf file)) s v) 0)
   means s v h k =
       let c : Couple (sizesOf file .states) (settings (sizesOf file)) s v (coupleAt (settings (sizesOf file)) s v) = record { state = h; setting = k; number = refl } in
       let m = u .table .filled (inl e) .needed _ (digits-lt h k) .move s v c in
-      record { rule = m .rule; fires = m .fires; only = λ r f. same-rule file (sizesOf file) (no-two-rules u e) c r (m .rule) f (m .fires); target = sym (m .leads) }
+      record { rule = m .rule; fires = m .fires; only = λ r f. same-rule file (sizesOf file) (no-two-rules u e) c r (m .rule) f (m .fires); leads = m .leads }
 
   -- by the sizes that are answered
   pub table-means : (s v : ℕ) → s < r .states → v < 2 ^ r .inputs → OneRule file (sizesOf file) s v (getD t (coupleAt (2 ^ r .inputs) s v) 0)

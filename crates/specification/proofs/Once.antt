@@ -7,7 +7,6 @@ use mathlib.Core.Logic.{_⊎_, ⊎-elim}
 use Prim.Native.Nat.{ℕ, _≤_, _<_}
 use native.Mathlib.Omega.{arith}
 use native.Mathlib.Decide.{decLt, ℕ-discrete}
-use lib.ListN.{length}
 use lib.Pow.{pow-pos}
 use Rattle.verdict.specs.Checks.{Decides, None}
 use Rattle.verdict.specs.declared.Answer.{Answer}

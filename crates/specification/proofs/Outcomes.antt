@@ -1,9 +1,9 @@
 -- The ways in which reading ends before the records are handed on: refused by the shape, refused by the rules, read. Each joins the
 -- verdicts of the parts, and by cases on the number says what there is to hand on.
 use mathlib.Core.Path.{_≡_, refl, sym, ap, subst, subst₂, _∙_}
-use mathlib.Core.Bool.{Bool, true, false}
+use mathlib.Core.Bool.{false}
 use mathlib.Core.List.{List}
-use Prim.Native.Nat.{ℕ, _+_, _≤_, _<_}
+use Prim.Native.Nat.{ℕ, _≤_}
 use native.Mathlib.Omega.{arith}
 use native.Mathlib.Decide.{ℕ-discrete}
 use lib.Dec.{eqb}
@@ -17,7 +17,7 @@ use Rattle.specification.specs.Records.{sizesOf, settings, recordAt}
 use Rattle.specification.specs.Rules.{textAt}
 use Rattle.specification.specs.Reading.{fileChecks, refusalOf, contentsOf, ReadHere}
 use Rattle.specification.specs.Segments.{shapeChecks, soundChecks}
-use Rattle.specification.specs.Private.{Laid, SoundAs, Handing, CoreAs}
+use Rattle.specification.specs.Private.{Laid, SoundAs, CoreAs}
 use Rattle.specification.specs.declared.Contents.{Contents}
 use Rattle.specification.specs.declared.records.Sizes.{Sizes}
 use Rattle.specification.specs.declared.reading.Core.{Core}

@@ -1,12 +1,12 @@
 -- A scan of the rules of one state at one setting keeps a tally: of the records seen at most one holds, and the byte is where it leads,
 -- or the blank. At the end the byte is what the table notes of the couple.
-use mathlib.Core.Path.{_≡_, refl, sym, subst, subst₂, _∙_}
+use mathlib.Core.Path.{_≡_, refl, sym, subst₂, _∙_}
 use mathlib.Core.List.{List}
 use Prim.Native.Nat.{ℕ, _+_, _*_, _≤_, _<_}
 use native.Mathlib.Nat.{lt-of-lt-of-le}
 use native.Mathlib.Omega.{arith}
 use native.Mathlib.Decide.{decLt}
-use lib.ListN.{length, set, length-set}
+use lib.ListN.{length, set}
 use borrow.Author.Count.{below-more}
 use Rattle.verdict.specs.Buffers.{Filled}
 use Rattle.verdict.proofs.Fills.{filled-at, filled-more}

@@ -76,3 +76,10 @@ pub record Moves (file : List ℕ) (z : Sizes) (s v t : ℕ) : Type 0 where
 -- x is the move of the couple p
 pub record MoveAt (file : List ℕ) (z : Sizes) (settings p x : ℕ) : Type 0 where
   pub move : (s v : ℕ) → Couple (z .states) settings s v p → Moves file z s v x
+
+-- exactly one rule of s holds at v, and x is its target
+pub record OneRule (file : List ℕ) (z : Sizes) (s v x : ℕ) : Type 0 where
+  pub rule : ℕ
+  pub fires : Fires file z s v rule
+  pub only : (r : ℕ) → Fires file z s v r → r ≡ rule
+  pub leads : leadsTo file z rule ≡ x

@@ -1,7 +1,7 @@
 // The contents of a file: refusal 1.
 ghost use mathlib.Core.Path.{_≡_};
-ghost use Prim.Native.Nat.{ℕ, _+_, _*_, _<_, _≤_, _^_};
-ghost use lib.ListN.{length, getD, take};
+ghost use Prim.Native.Nat.{_+_, _*_, _<_, _≤_, _^_};
+ghost use lib.ListN.{length, take};
 ghost use Rattle.verdict.specs.Checks.{Decides};
 ghost use Rattle.specification.specs.File.{twoAt, mark, kinds, entryAt, kindOf, offsetOf, lengthOf, startOf, Entries, Headed, Measured, WellFormed};
 use crate::BYTES;

@@ -1,7 +1,7 @@
 // The evolutions handed on: the lent records are filled, and one is taken out.
 ghost use mathlib.Core.Path.{_≡_};
 ghost use mathlib.Core.List.{_++_};
-ghost use Prim.Native.Nat.{ℕ, _+_, _*_, _≤_, _<_};
+ghost use Prim.Native.Nat.{_+_, _*_, _≤_, _<_};
 ghost use lib.ListN.{length, getD, drop};
 ghost use Rattle.specification.specs.Limits.{mostBytes};
 ghost use Rattle.specification.specs.Evolutions.{blank};

@@ -1,6 +1,6 @@
 // Reading a file whole: the checks in their order, the table and the words.
 ghost use mathlib.Core.Path.{_≡_};
-ghost use Prim.Native.Nat.{ℕ, _+_, _*_, _<_, _≤_};
+ghost use Prim.Native.Nat.{_+_, _*_, _<_, _≤_};
 ghost use lib.ListN.{length};
 ghost use Rattle.verdict.specs.Checks.{Passed, Judged};
 ghost use Rattle.verdict.specs.Buffers.{Filled};

@@ -1,10 +1,10 @@
 // Sizes and records: refusals 2, 4, 6, 7 and 11.
 ghost use mathlib.Core.Path.{_≡_};
-ghost use Prim.Native.Nat.{ℕ, _+_, _*_, _<_, _≤_, _^_};
-ghost use lib.ListN.{length, getD};
+ghost use Prim.Native.Nat.{_+_, _*_, _<_, _≤_, _^_};
+ghost use lib.ListN.{length};
 ghost use Rattle.verdict.specs.Checks.{Decides, Finds};
 ghost use Rattle.specification.specs.Limits.{mostBytes, mostOutputs};
-ghost use Rattle.specification.specs.File.{entryAt, kinds, startOf, lengthOf, WellFormed};
+ghost use Rattle.specification.specs.File.{entryAt, kinds, startOf, WellFormed};
 ghost use Rattle.specification.specs.Records.{sumTo, records, recordAt, byteOf, word as wordOf, source as sourceOf, target as targetOf, textLength, sizesOf, Ranges, Sized};
 ghost use Rattle.specification.specs.Private.{Laid, Wrong};
 use crate::EVOLUTIONS;

@@ -6,7 +6,6 @@ ghost use Rattle.verdict.specs.Checks.{Decides, Finds};
 ghost use Rattle.verdict.specs.Buffers.{Filled};
 ghost use Rattle.condition.specs.Condition.{Says};
 ghost use Rattle.machine.specs.Limits.{mostSettings};
-ghost use Rattle.specification.specs.Limits.{blankMove};
 ghost use Rattle.specification.specs.Records.{records};
 ghost use Rattle.specification.specs.Rules.{textOf, Holds, Unreads, ruleOf, leadsTo, TwoRules};
 ghost use Rattle.specification.specs.Evolutions.{Met};

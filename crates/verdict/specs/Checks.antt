@@ -2,6 +2,7 @@
 use mathlib.Core.Path.{_≡_}
 use mathlib.Core.Bool.{Bool, true, false}
 use mathlib.Core.List.{List, [], _∷_}
+use mathlib.Core.Logic.{_⊎_}
 use Prim.Native.Nat.{ℕ, _<_}
 use Rattle.verdict.specs.declared.Answer.{Answer}
 use Rattle.verdict.specs.declared.Found.{Found}
@@ -65,3 +66,13 @@ Verdict (c ∷ cs) done a = Then (c .fails) (c .number) (Verdict cs done a) a
 -- the answer of a job: the verdict of its checks
 pub record Judged (cs : List Check) (done : Answer → Type 0) (a : Answer) : Type 0 where
   pub verdict : Verdict cs done a
+
+-- some check of the list fails somewhere
+abbrev pub Fails : List Check → Type 0
+Fails [] = ⊥
+Fails (c ∷ cs) = ((p : ℕ) × c .fails p) ⊎ Fails cs
+
+-- the first check of the list that fails has the number of a, and the place of a is the least at which it fails
+abbrev pub FirstFails : List Check → Answer → Type 0
+FirstFails [] a = ⊥
+FirstFails (c ∷ cs) a = ((c .number ≡ a .number) × Least (c .fails) (a .place)) ⊎ (None (c .fails) × FirstFails cs a)

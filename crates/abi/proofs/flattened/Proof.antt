@@ -1,4 +1,4 @@
--- `abi::flattened` meets its contract: each number is the one of its name. Assumes nothing.
+-- `abi::flattened` meets its contract: each number is the one of its name.
 use borrow.Author.Needs.{needs}
 use Rattle.abi.proofs.flattened.Statement.{statement}
 use Rattle.abi.proofs.flattened.Tie as tie

@@ -1,4 +1,4 @@
--- `abi::in_numbers` meets its contract: each arm has the numbers that the definitions give its case. Assumes nothing.
+-- `abi::in_numbers` meets its contract: each arm has the numbers that the definitions give its case.
 use borrow.Author.Needs.{needs}
 use Rattle.abi.proofs.in_numbers.Statement.{statement}
 use Rattle.abi.proofs.in_numbers.Tie as tie

@@ -1,6 +1,5 @@
 -- `abi::mundrefol_read` meets its contract: a walk of its MIR, by hand. The three buffers are passed on to `specification::read` for good, each at its own lifetime and name, and `flattened` is called on what it answers.
 -- All that the proof knows of the two is that they meet their contracts.
--- Assumes nothing.
 use mathlib.Core.Path.{_≡_, refl, sym, ap, subst}
 use Prim.Native.Nat.{ℕ}
 use mathlib.Core.List.{[], _∷_, List}

@@ -1,6 +1,5 @@
 -- `abi::mundrefol_update` meets its contract: a walk of its MIR, by hand. The log is passed on to `bench::update` for good, at its own lifetime, and `in_numbers` is called on the answer.
 -- All that the proof knows of the two is that they meet their contracts.
--- Assumes nothing.
 use mathlib.Core.Path.{_≡_, refl, ap, subst, _∙_}
 use Prim.Native.Nat.{ℕ}
 use mathlib.Core.List.{[], _∷_, List}

@@ -1,4 +1,4 @@
--- `bench::refused` meets its contract: each test of the code is one of the definition's. Assumes nothing.
+-- `bench::refused` meets its contract: each test of the code is one of the definition's.
 use native.Mathlib.Omega.{arith}
 use mathlib.Core.Path.{_≡_, sym, _∙_}
 use mathlib.Core.Logic.{⊎-elim}

@@ -1,4 +1,4 @@
--- `bench::step` meets its contract: each return is the case of `updateOf` that the tests before it pick. Assumes nothing.
+-- `bench::step` meets its contract: each return is the case of `updateOf` that the tests before it pick.
 use native.Mathlib.Omega.{arith}
 use mathlib.Core.Path.{_≡_, sym, _∙_}
 use mathlib.Core.Bool.{false}

@@ -1,6 +1,5 @@
 -- `bench::update` meets its contract: a walk of its MIR, by hand. The borrow is opened, the log is copied out and `step` is called on the copy, its log is stored, and the borrow is closed at that log.
 -- All that the proof knows of `step` is that it meets its contract. Nothing here is of numbers: the records are plain data, so what they own is made of their facts.
--- Assumes nothing.
 use mathlib.Core.Path.{_≡_, refl, ap}
 use Prim.Native.Nat.{ℕ}
 use mathlib.Core.List.{[], _∷_, List}

@@ -1,6 +1,5 @@
 -- `bench::updated` meets its contract: a walk of its MIR, by hand. The local log is lent to `update` for a lifetime that is made for the call, and is back at what `update` says when that lifetime has ended.
 -- All that the proof knows of `update` is that it meets its contract.
--- Assumes nothing.
 use mathlib.Core.Path.{_≡_, refl, ap, subst}
 use Prim.Native.Nat.{ℕ}
 use mathlib.Core.List.{[], _∷_, List}

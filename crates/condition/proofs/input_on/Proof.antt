@@ -1,5 +1,4 @@
 -- `condition::input_on` meets its contract: from the 64th on, no bit of a setting is set.
--- Assumes nothing.
 use borrow.Author.Needs.{needs}
 use Prim.Native.Nat.{ℕ, _%_}
 use mathlib.Core.Path.{sym, ap}

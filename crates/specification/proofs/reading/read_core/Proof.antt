@@ -5,7 +5,7 @@ use mathlib.Core.Path.{_≡_, sym, ap, subst, _∙_}
 use Prim.Native.Nat.{_+_, _*_}
 use lib.Pow.{pow-pos}
 use Rattle.verdict.proofs.Order.{judged-passes, roomy}
-use Rattle.specification.specs.Records.{sumTo, records, recordAt, textLength, sizesOf, settings, couples, Ranges}
+use Rattle.specification.specs.Records.{records, recordAt, textLength, sizesOf, settings, couples}
 use Rattle.specification.specs.Rules.{textAt}
 use Rattle.specification.specs.Reading.{contentsOf}
 use Rattle.specification.specs.Private.{Laid}

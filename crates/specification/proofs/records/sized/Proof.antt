@@ -1,7 +1,7 @@
 -- `sized` asks for the ranges, the length of kind 2 and the sum of the condition lengths, one after the other.
 use borrow.Author.Needs.{needs}
 use native.Mathlib.Omega.{arith}
-use mathlib.Core.Path.{_≡_, sym, ap, subst}
+use mathlib.Core.Path.{sym, ap, subst}
 use borrow.Author.Tests.{not-true, not-false}
 use Rattle.verdict.proofs.Tests.{it-fails, decides-eqb}
 use Rattle.specification.specs.Records.{sumTo, records, textLength, Ranges}

@@ -2,12 +2,12 @@
 use borrow.Author.Needs.{needs}
 use native.Mathlib.Omega.{arith}
 use mathlib.Core.Path.{_≡_}
-use Prim.Native.Nat.{ℕ, _+_, _*_, _-_, _≤_}
+use Prim.Native.Nat.{ℕ, _*_, _-_, _≤_}
 use lib.ListN.{length, length-replicate}
 use Rattle.verdict.specs.Buffers.{Filled}
 use Rattle.verdict.proofs.Fills.{filled-none, filled-more}
 use Rattle.specification.specs.Limits.{mostRecords}
-use Rattle.specification.specs.Records.{sumTo, recordAt, records, textLength}
+use Rattle.specification.specs.Records.{sumTo, records, textLength}
 use Rattle.specification.specs.Rules.{textAt}
 use Rattle.specification.proofs.Laws.{sum-more}
 use Rattle.specification.proofs.rules.starts_of.Statement.{statement}

@@ -1,0 +1,78 @@
+// The rows about runs: the answer, then what the buffers hold that were lent, 7 before.
+use crate::lines::answer;
+use crate::lines::bytes;
+use crate::lines::end;
+use crate::lines::name;
+use crate::lines::values;
+use crate::ranks::gate_table;
+
+// The plan of the lamp where it fits, and one byte short.
+pub(crate) fn lamp_plan() {
+    let mut room = [7u8; 13];
+    plan_of_lamp(b"lamp plan", &mut room);
+    let mut short = [7u8; 11];
+    plan_of_lamp(b"lamp plan into 11 bytes", &mut short);
+}
+
+fn plan_of_lamp(what: &[u8], room: &mut [u8]) {
+    let mut ranks = [7u16; 5];
+    let planned = plan::plan(1, 2, 0, b"\x00\x01\x00\x01", &mut ranks, room);
+    name(what);
+    answer(planned);
+    values(&ranks);
+    bytes(room);
+    end();
+}
+
+// Runs to couples of the gate.
+pub(crate) fn gate_runs() {
+    let mut room = [7u8; 5];
+    run_to(b"gate run to 44", 44, &mut room);
+    let mut room = [7u8; 3];
+    run_to(b"gate run to 44 into 3 bytes", 44, &mut room);
+    let mut room = [7u8; 5];
+    run_to(b"gate run to 48", 48, &mut room);
+    let mut room = [7u8; 5];
+    run_to(b"gate run to 19", 19, &mut room);
+}
+
+fn run_to(what: &[u8], couple: usize, room: &mut [u8]) {
+    let table = gate_table();
+    let mut ranks = [7u16; 48];
+    let told = plan::run_to(4, 3, 0, &table, &mut ranks, couple, room);
+    name(what);
+    answer(told);
+    bytes(room);
+    end();
+}
+
+// Expected readings, and lists of settings that are no run.
+pub(crate) fn expected_readings() {
+    of_lamp(b"lamp readings of run 3", b"\x00\x01\x00");
+    of_lamp(b"lamp empty run", b"");
+    of_lamp(b"lamp first setting without rest", b"\x01\x00");
+    of_lamp(b"lamp setting too large", b"\x00\x01\x03");
+    of_lamp(b"lamp no input changed", b"\x00\x01\x01");
+    of_gate(b"gate two inputs changed", b"\x08\x0a\x0c");
+}
+
+fn of_lamp(what: &[u8], run: &[u8]) {
+    let words = [0u16, 1];
+    let mut readings = [7u16; 6];
+    let told = readings::expected(1, 2, 0, b"\x00\x01\x00\x01", &words, run, &mut readings);
+    name(what);
+    answer(told);
+    values(&readings);
+    end();
+}
+
+fn of_gate(what: &[u8], run: &[u8]) {
+    let table = gate_table();
+    let words = [0u16, 1, 2];
+    let mut readings = [7u16; 6];
+    let told = readings::expected(4, 3, 0, &table, &words, run, &mut readings);
+    name(what);
+    answer(told);
+    values(&readings);
+    end();
+}
