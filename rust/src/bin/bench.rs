@@ -3,18 +3,29 @@
 use mundrefol::generate::{largest_file, longest_table, Table};
 use mundrefol::plain::{self, lines, Jobs, COUPLES, EVOLUTIONS, FILE, STATES, UNMARKED};
 use mundrefol::{examples, Contents, Evolution};
+use std::fs::{self, File};
 use std::hint::black_box;
+use std::io::{self, Read, Write};
+use std::path::Path;
+use std::process::{self, Command, Stdio};
 use std::time::{Duration, Instant};
 
 /// A job is repeated for at least this long, in rounds that take turns with its rival.
 const TIME: Duration = Duration::from_millis(400);
 const ROUNDS: usize = 8;
 
+/// With this argument it prints the sheet of the file on standard input, by the independent implementation.
+const SHEET: &str = "--sheet";
+
 fn main() {
+    if std::env::args().any(|argument| argument == SHEET) {
+        return print_sheet();
+    }
     println!("Best time of one call over {ROUNDS} rounds; buffers are not cleared between calls.");
     println!(
         "sheet: reading, plan and lines in memory; the lines are written by the same Rust code."
     );
+    println!("program: a process that reads the file and prints its whole sheet.");
     bench_file("lamp", &examples::lamp().bytes());
     bench_file("gate", &examples::gate().bytes());
     bench_file("largest", &largest_file(FILE).bytes());
@@ -115,6 +126,34 @@ fn bench_file(name: &str, file: &[u8]) {
     row("sheet", &mut || drop(black_box(lines(library, black_box(file)))), &mut || {
         drop(black_box(plain::sheet(black_box(file))))
     });
+    bench_program(file);
+}
+
+fn print_sheet() {
+    let mut file = Vec::new();
+    io::stdin().read_to_end(&mut file).expect("standard input is read");
+    io::stdout().write_all(&plain::sheet(&file)).expect("standard output is written");
+}
+
+/// The program `sheet` against this one with the argument `--sheet`.
+fn bench_program(file: &[u8]) {
+    let program = Path::new(env!("CARGO_MANIFEST_DIR")).join("../target/bin/sheet");
+    if !program.exists() {
+        println!("program   target/bin/sheet is missing: run `rt check sheet`");
+        return;
+    }
+    let path = std::env::temp_dir().join(format!("mundrefol-bench-{}", process::id()));
+    fs::write(&path, file).expect("the file is written");
+    let run = |command: &mut Command| {
+        let input = File::open(&path).expect("the file is there");
+        let status = command.stdin(input).stdout(Stdio::null()).status();
+        assert!(status.expect("the program runs").success());
+    };
+    let own = std::env::current_exe().expect("this program has a path");
+    let (mut ours, mut theirs) = (Command::new(program), Command::new(own));
+    theirs.arg(SHEET);
+    row("program", &mut || run(&mut ours), &mut || run(&mut theirs));
+    fs::remove_file(&path).expect("the file is removed");
 }
 
 fn bench_table(table: &Table) {
