@@ -5,11 +5,12 @@
  * The couple (state, setting) has the number state * 2^inputs + setting. A table gives each couple
  * its move: the state that follows. A couple is at rest if its move is its own state. A run is a
  * start, a setting at which the initial state rests, then settings that each differ from the one
- * before in exactly one input. A buffer's needed part is what the answer uses of it.
+ * before in exactly one input. A file's records are its states, then its evolutions, numbered from 0.
+ * A buffer's needed part is what the answer uses of it.
  *
- * Every function takes any numbers and any contents. Each pointer must be valid for the number of
- * elements that its length names, and a buffer that is written must not overlap any other argument.
- * Elements beyond the needed part of a buffer never change.
+ * Every function takes any numbers and any contents. A pointer is never null, whatever its length,
+ * and valid for the number of elements that its length names; a buffer that is written does not
+ * overlap any other argument. Elements beyond the needed part of a buffer never change.
  *
  * Each answer carries a number and a place; number 0 is success. The refusals:
  *
@@ -17,7 +18,7 @@
  *    1   file too long or too short, or its contents wrong         0
  *    2   a size outside its range, or sizes that do not agree      0
  *    3   a table, word, record, rank or reading buffer too short   needed elements of the first such
- *    4   output bit beyond the outputs; state not below states     record (states, then evolutions), or couple
+ *    4   output bit beyond the outputs; state not below states     record, or couple
  *    5   condition does not read                                   record
  *    6   evolution to its own source                               record
  *    7   same source and target as an earlier evolution            record
@@ -50,8 +51,14 @@ extern "C" {
 /* The answer of a table job: its number, and its place. */
 typedef struct { size_t number, place; } mundrefol_answer;
 
-/* The answer of reading a file: number and place, and the file's sizes, all zero on refusal. */
-typedef struct { size_t number, place, inputs, outputs, states, initial, evolutions; } mundrefol_contents;
+/* What a table job is told beside the table: the numbers of inputs and states, and the initial state. */
+typedef struct { size_t inputs, states, initial; } mundrefol_frame;
+
+/*
+ * The answer of reading a file: number and place; outputs, evolutions and frame of the file, all
+ * zero on refusal. The frame goes to the table jobs as it is.
+ */
+typedef struct { size_t number, place, outputs, evolutions; mundrefol_frame frame; } mundrefol_contents;
 
 /* An evolution of the file: source and target state, place in the file and length of its condition. */
 typedef struct { uint8_t source, target; uint16_t at; uint8_t length; } mundrefol_evolution;
@@ -62,7 +69,7 @@ typedef struct { uint16_t run, change; bool second; } mundrefol_entry;
 /* The bench log: readings, differing readings, entries kept, and the first 32 differences. A fresh log is all zero. */
 typedef struct { uint32_t readings, differing, kept; mundrefol_entry entries[32]; } mundrefol_log;
 
-/* The answer of an update: number and place, and the kind: 0 equal, 1 stored, 2 full; 0 with a refusal. */
+/* The answer of an update: number and place, and the kind: 0 equal, 1 stored, 2 full, 3 refused. */
 typedef struct { size_t number, place, kind; } mundrefol_noted;
 
 /*
@@ -75,12 +82,20 @@ mundrefol_contents mundrefol_read(const uint8_t *file, size_t file_len, uint8_t 
                                   uint16_t *words, size_t words_len, mundrefol_evolution *records, size_t records_len);
 
 /*
+ * Whether the condition of an evolution holds at a setting. The records are those that reading the
+ * file handed on, the evolution is counted among them from 0. A letter is one of a to h and stands
+ * for an input below inputs, which is on if its bit of the setting is 1.
+ * False beyond the records, where the text is not within the file, and where it does not read.
+ */
+bool mundrefol_evolution_holds(const mundrefol_evolution *records, size_t records_len, size_t evolution,
+                               const uint8_t *file, size_t file_len, size_t inputs, size_t setting);
+
+/*
  * Marks the couples of a table that runs visit. On success the place is 0 and ranks holds for each
  * couple the fewest changes of any run that visits it, 65535 if none does.
  * Refused by 2, 3, 4, 10, 13. After 2 or 3 nothing changes; after 4, 10 or 13 the needed ranks are 65535.
  */
-mundrefol_answer mundrefol_mark(size_t inputs, size_t states, size_t initial, const uint8_t *table, size_t table_len,
-                                uint16_t *ranks, size_t ranks_len);
+mundrefol_answer mundrefol_mark(mundrefol_frame frame, const uint8_t *table, size_t table_len, uint16_t *ranks, size_t ranks_len);
 
 /*
  * Writes the run to a couple, one byte a setting: as many changes as the couple's rank, and among
@@ -89,8 +104,8 @@ mundrefol_answer mundrefol_mark(size_t inputs, size_t states, size_t initial, co
  * Refused as marking is, then by 14, 15, 16. Ranks are left as marking leaves them; after a refusal
  * the run buffer is unchanged.
  */
-mundrefol_answer mundrefol_run_to(size_t inputs, size_t states, size_t initial, const uint8_t *table, size_t table_len,
-                                  uint16_t *ranks, size_t ranks_len, size_t couple, uint8_t *run, size_t run_len);
+mundrefol_answer mundrefol_run_to(mundrefol_frame frame, const uint8_t *table, size_t table_len, uint16_t *ranks, size_t ranks_len,
+                                  size_t couple, uint8_t *run, size_t run_len);
 
 /*
  * Writes the plan: through the marked couples in rising number, the run to each one that no earlier
@@ -99,8 +114,8 @@ mundrefol_answer mundrefol_run_to(size_t inputs, size_t states, size_t initial, 
  * Refused as marking is, then by 16 with the bytes that the whole plan needs. Ranks are left as
  * marking leaves them; after a refusal the plan buffer is unchanged.
  */
-mundrefol_answer mundrefol_plan(size_t inputs, size_t states, size_t initial, const uint8_t *table, size_t table_len,
-                                uint16_t *ranks, size_t ranks_len, uint8_t *plan, size_t plan_len);
+mundrefol_answer mundrefol_plan(mundrefol_frame frame, const uint8_t *table, size_t table_len, uint16_t *ranks, size_t ranks_len,
+                                uint8_t *plan, size_t plan_len);
 
 /*
  * Writes the readings expected on a run, one byte a setting: after the start one reading, after each
@@ -108,14 +123,13 @@ mundrefol_answer mundrefol_plan(size_t inputs, size_t states, size_t initial, co
  * readings, 2 * run_len - 1; so many readings are needed also where 17 refuses, an empty run needs none.
  * Refused by 2 (also a run of over 65535 settings), 3, 4, 10, 17; nothing changes after a refusal.
  */
-mundrefol_answer mundrefol_expected(size_t inputs, size_t states, size_t initial, const uint8_t *table, size_t table_len,
-                                    const uint16_t *words, size_t words_len, const uint8_t *run, size_t run_len,
-                                    uint16_t *readings, size_t readings_len);
+mundrefol_answer mundrefol_expected(mundrefol_frame frame, const uint8_t *table, size_t table_len, const uint16_t *words, size_t words_len,
+                                    const uint8_t *run, size_t run_len, uint16_t *readings, size_t readings_len);
 
 /*
  * Notes one reading in the log: compares the expected with the seen word. Equal counts a reading;
  * stored counts a differing one too and keeps the entry as given; full counts it without keeping it.
- * Entries beyond the kept ones are not looked at. Refused by 18; the log is then unchanged.
+ * Entries beyond the kept ones are not looked at. Refused by 18; the log is then unchanged, the kind 3.
  */
 mundrefol_noted mundrefol_update(mundrefol_log *log, uint16_t run, uint16_t change, bool second, uint16_t expected, uint16_t seen);
 

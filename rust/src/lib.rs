@@ -12,23 +12,29 @@ use plain::ENTRIES;
 
 /// The answer of a table job: number 0 is success, any other a refusal.
 #[repr(C)]
-#[derive(Clone, Copy, Debug, PartialEq, Eq)]
+#[derive(Clone, Copy, Debug, Default, PartialEq, Eq)]
 pub struct Answer {
     pub number: usize,
     pub place: usize,
 }
 
-/// The answer of reading a file: number and place, and the file's sizes, all zero on refusal.
+/// What a table job is told beside the table: the numbers of inputs and states, and the initial state.
+#[repr(C)]
+#[derive(Clone, Copy, Debug, Default, PartialEq, Eq)]
+pub struct Frame {
+    pub inputs: usize,
+    pub states: usize,
+    pub initial: usize,
+}
+
+/// The answer of reading a file; outputs, evolutions and frame of the file, all zero on refusal.
 #[repr(C)]
 #[derive(Clone, Copy, Debug, Default, PartialEq, Eq)]
 pub struct Contents {
-    pub number: usize,
-    pub place: usize,
-    pub inputs: usize,
+    pub answer: Answer,
     pub outputs: usize,
-    pub states: usize,
-    pub initial: usize,
     pub evolutions: usize,
+    pub frame: Frame,
 }
 
 /// An evolution of the file: source and target state, place in the file and length of its condition.
@@ -60,7 +66,7 @@ pub struct Log {
     pub entries: [Entry; ENTRIES],
 }
 
-/// The answer of an update: kind 0 equal, 1 stored, 2 full; 0 with a refusal.
+/// The answer of an update: kind 0 equal, 1 stored, 2 full, 3 refused.
 #[repr(C)]
 #[derive(Clone, Copy, Debug, PartialEq, Eq)]
 pub struct Noted {
@@ -72,6 +78,7 @@ pub struct Noted {
 /// The layouts of the header.
 const _: () = {
     assert!(size_of::<Answer>() == 2 * size_of::<usize>());
+    assert!(size_of::<Frame>() == 3 * size_of::<usize>());
     assert!(size_of::<Contents>() == 7 * size_of::<usize>());
     assert!(size_of::<Evolution>() == 6);
     assert!(size_of::<Entry>() == 6);
@@ -80,7 +87,7 @@ const _: () = {
 };
 
 mod entry {
-    use super::{Answer, Contents, Evolution, Log, Noted};
+    use super::{Answer, Contents, Evolution, Frame, Log, Noted};
 
     extern "C" {
         pub fn mundrefol_read(
@@ -93,19 +100,24 @@ mod entry {
             records: *mut Evolution,
             records_len: usize,
         ) -> Contents;
-        pub fn mundrefol_mark(
+        pub fn mundrefol_evolution_holds(
+            records: *const Evolution,
+            records_len: usize,
+            evolution: usize,
+            file: *const u8,
+            file_len: usize,
             inputs: usize,
-            states: usize,
-            initial: usize,
+            setting: usize,
+        ) -> bool;
+        pub fn mundrefol_mark(
+            frame: Frame,
             table: *const u8,
             table_len: usize,
             ranks: *mut u16,
             ranks_len: usize,
         ) -> Answer;
         pub fn mundrefol_run_to(
-            inputs: usize,
-            states: usize,
-            initial: usize,
+            frame: Frame,
             table: *const u8,
             table_len: usize,
             ranks: *mut u16,
@@ -115,9 +127,7 @@ mod entry {
             run_len: usize,
         ) -> Answer;
         pub fn mundrefol_plan(
-            inputs: usize,
-            states: usize,
-            initial: usize,
+            frame: Frame,
             table: *const u8,
             table_len: usize,
             ranks: *mut u16,
@@ -126,9 +136,7 @@ mod entry {
             plan_len: usize,
         ) -> Answer;
         pub fn mundrefol_expected(
-            inputs: usize,
-            states: usize,
-            initial: usize,
+            frame: Frame,
             table: *const u8,
             table_len: usize,
             words: *const u16,
@@ -149,6 +157,9 @@ mod entry {
     }
 }
 
+// SAFETY of every call below: each pointer is a slice's own, so never null, whatever its length, and
+// valid for the length beside it; the borrows keep what is written apart from all else.
+
 /// Reads a specification file into a table, the states' output words and the evolutions' records.
 pub fn read(
     file: &[u8],
@@ -156,7 +167,6 @@ pub fn read(
     words: &mut [u16],
     records: &mut [Evolution],
 ) -> Contents {
-    // SAFETY: each pointer and length come from one slice, and the borrows keep them apart.
     unsafe {
         entry::mundrefol_read(
             file.as_ptr(),
@@ -171,44 +181,45 @@ pub fn read(
     }
 }
 
-/// Marks the couples that runs visit: their ranks, 65,535 for the others.
-pub fn mark(
+/// Whether the condition of an evolution of the records holds at a setting.
+pub fn evolution_holds(
+    records: &[Evolution],
+    evolution: usize,
+    file: &[u8],
     inputs: usize,
-    states: usize,
-    initial: usize,
-    table: &[u8],
-    ranks: &mut [u16],
-) -> Answer {
-    // SAFETY: each pointer and length come from one slice, and the borrows keep them apart.
+    setting: usize,
+) -> bool {
     unsafe {
-        entry::mundrefol_mark(
+        entry::mundrefol_evolution_holds(
+            records.as_ptr(),
+            records.len(),
+            evolution,
+            file.as_ptr(),
+            file.len(),
             inputs,
-            states,
-            initial,
-            table.as_ptr(),
-            table.len(),
-            ranks.as_mut_ptr(),
-            ranks.len(),
+            setting,
         )
+    }
+}
+
+/// Marks the couples that runs visit: their ranks, 65,535 for the others.
+pub fn mark(frame: Frame, table: &[u8], ranks: &mut [u16]) -> Answer {
+    unsafe {
+        entry::mundrefol_mark(frame, table.as_ptr(), table.len(), ranks.as_mut_ptr(), ranks.len())
     }
 }
 
 /// Writes the run to a couple; the place is its number of settings.
 pub fn run_to(
-    inputs: usize,
-    states: usize,
-    initial: usize,
+    frame: Frame,
     table: &[u8],
     ranks: &mut [u16],
     couple: usize,
     run: &mut [u8],
 ) -> Answer {
-    // SAFETY: each pointer and length come from one slice, and the borrows keep them apart.
     unsafe {
         entry::mundrefol_run_to(
-            inputs,
-            states,
-            initial,
+            frame,
             table.as_ptr(),
             table.len(),
             ranks.as_mut_ptr(),
@@ -221,20 +232,10 @@ pub fn run_to(
 }
 
 /// Writes the plan; the place is its number of bytes.
-pub fn plan(
-    inputs: usize,
-    states: usize,
-    initial: usize,
-    table: &[u8],
-    ranks: &mut [u16],
-    plan: &mut [u8],
-) -> Answer {
-    // SAFETY: each pointer and length come from one slice, and the borrows keep them apart.
+pub fn plan(frame: Frame, table: &[u8], ranks: &mut [u16], plan: &mut [u8]) -> Answer {
     unsafe {
         entry::mundrefol_plan(
-            inputs,
-            states,
-            initial,
+            frame,
             table.as_ptr(),
             table.len(),
             ranks.as_mut_ptr(),
@@ -247,20 +248,15 @@ pub fn plan(
 
 /// Writes the readings expected on a run; the place is their number.
 pub fn expected(
-    inputs: usize,
-    states: usize,
-    initial: usize,
+    frame: Frame,
     table: &[u8],
     words: &[u16],
     run: &[u8],
     readings: &mut [u16],
 ) -> Answer {
-    // SAFETY: each pointer and length come from one slice, and the borrows keep them apart.
     unsafe {
         entry::mundrefol_expected(
-            inputs,
-            states,
-            initial,
+            frame,
             table.as_ptr(),
             table.len(),
             words.as_ptr(),

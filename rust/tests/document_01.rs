@@ -2,7 +2,7 @@
 
 use mundrefol::file::File;
 use mundrefol::plain::{COUPLES, EVOLUTIONS, STATES, UNMARKED};
-use mundrefol::{examples, plain, Answer, Contents, Evolution};
+use mundrefol::{examples, plain, Answer, Contents, Evolution, Frame};
 
 /// What reading a file gives.
 struct Read {
@@ -29,46 +29,45 @@ fn read(file: &[u8]) -> Read {
     library
 }
 
-/// Number and place of reading a file.
-fn verdict(file: &File) -> (usize, usize) {
-    let contents = read(&file.bytes()).contents;
-    (contents.number, contents.place)
+/// The answer of reading a file.
+fn verdict(file: &File) -> Answer {
+    read(&file.bytes()).contents.answer
 }
 
-/// Sizes and table of a file that reads.
-fn machine(file: &File) -> (usize, usize, usize, Vec<u8>) {
-    let Read { contents, mut table, .. } = read(&file.bytes());
-    assert_eq!(contents.number, 0);
-    table.truncate(contents.states << contents.inputs);
-    (contents.inputs, contents.states, contents.initial, table)
+/// Frame and table of a file that reads.
+fn machine(file: &File) -> (Frame, Vec<u8>) {
+    let Read { contents: Contents { answer, frame, .. }, mut table, .. } = read(&file.bytes());
+    assert_eq!(answer, Answer::done(0));
+    table.truncate(frame.couples());
+    (frame, table)
 }
 
 fn ranks(file: &File) -> Vec<u16> {
-    let (inputs, states, initial, table) = machine(file);
+    let (frame, table) = machine(file);
     let mut ranks = vec![0; table.len()];
-    assert_eq!(mundrefol::mark(inputs, states, initial, &table, &mut ranks), Answer::done(0));
+    assert_eq!(mundrefol::mark(frame, &table, &mut ranks), Answer::done(0));
     let mut plain_ranks = vec![1; table.len()];
-    assert_eq!(plain::mark(inputs, states, initial, &table, &mut plain_ranks), Answer::done(0));
+    assert_eq!(plain::mark(frame, &table, &mut plain_ranks), Answer::done(0));
     assert_eq!(ranks, plain_ranks);
     ranks
 }
 
 fn run_to(file: &File, couple: usize) -> (Answer, Vec<u8>) {
-    let (inputs, states, initial, table) = machine(file);
+    let (frame, table) = machine(file);
     let (mut ranks, mut run) = (vec![0; table.len()], vec![99; 100]);
-    let answer = mundrefol::run_to(inputs, states, initial, &table, &mut ranks, couple, &mut run);
+    let answer = mundrefol::run_to(frame, &table, &mut ranks, couple, &mut run);
     let mut plain_run = vec![99; 100];
-    let plain = plain::run_to(inputs, states, initial, &table, &mut ranks, couple, &mut plain_run);
+    let plain = plain::run_to(frame, &table, &mut ranks, couple, &mut plain_run);
     assert_eq!((answer, &run), (plain, &plain_run));
     (answer, run)
 }
 
 fn plan_into(file: &File, bytes: usize) -> (Answer, Vec<u8>) {
-    let (inputs, states, initial, table) = machine(file);
+    let (frame, table) = machine(file);
     let (mut ranks, mut plan) = (vec![0; table.len()], vec![99; bytes]);
-    let answer = mundrefol::plan(inputs, states, initial, &table, &mut ranks, &mut plan);
+    let answer = mundrefol::plan(frame, &table, &mut ranks, &mut plan);
     let mut plain_plan = vec![99; bytes];
-    let plain = plain::plan(inputs, states, initial, &table, &mut ranks, &mut plain_plan);
+    let plain = plain::plan(frame, &table, &mut ranks, &mut plain_plan);
     assert_eq!((answer, &plan), (plain, &plain_plan));
     (answer, plan)
 }
@@ -82,8 +81,9 @@ fn lamp_file() {
         assert_eq!(bytes[6 + 5 * entry..8 + 5 * entry], *offset);
     }
     let Read { contents, table, words, records } = read(&bytes);
-    let sizes = (contents.inputs, contents.outputs, contents.states, contents.initial);
-    assert_eq!((contents.number, contents.place, sizes), (0, 0, (1, 1, 2, 0)));
+    let frame = Frame { inputs: 1, states: 2, initial: 0 };
+    let right = Contents { answer: Answer::done(0), outputs: 1, evolutions: 2, frame };
+    assert_eq!(contents, right);
     assert_eq!(table[..5], [0, 1, 0, 1, 77]);
     assert_eq!(words[..3], [0, 1, 7_777]);
     assert_eq!(records[0], Evolution { source: 0, target: 1, at: 44, length: 1 });
@@ -104,7 +104,7 @@ fn lamp_ranks_and_plan() {
 #[test]
 fn gate_moves_and_runs() {
     let gate = examples::gate();
-    let (_, _, _, table) = machine(&gate);
+    let (_, table) = machine(&gate);
     assert_eq!([table[4], table[17], table[44]], [1, 2, 0]);
     let (answer, run) = run_to(&gate, 44);
     assert_eq!((answer, &run[..5]), (Answer::done(4), &[8, 10, 8, 12, 99][..]));
@@ -128,7 +128,7 @@ fn gate_is_the_published_table() {
         [2, 3, 3, 3, 2, 1, 1, 1, 1, 1, 3, 3, 1, 1, 1, 1],
         [3, 3, 3, 3, 2, 1, 1, 1, 3, 3, 3, 3, 1, 1, 1, 1],
     ];
-    let (_, _, _, table) = machine(&examples::gate());
+    let (_, table) = machine(&examples::gate());
     let named: Vec<u8> = table.iter().map(|state| state + 1).collect();
     assert_eq!(named, published.concat());
 }
@@ -145,7 +145,7 @@ fn table_iv_is_the_published_table() {
         [(4, 5), (3, 5), (4, 3), (5, 3), (4, 1), (3, 1), (2, 5), (3, 5)],
     ];
     let file = examples::table_iv();
-    let (_, _, _, table) = machine(&file);
+    let (_, table) = machine(&file);
     let ranks = ranks(&file);
     for (state, row) in published.iter().enumerate() {
         for (&setting, &(rank, to)) in columns.iter().zip(row) {
@@ -166,13 +166,13 @@ fn refused_conditions() {
         file.states[0].rest = rest.to_string();
         verdict(&file)
     };
-    assert_eq!(with_rest(1, "1"), (8, 1));
+    assert_eq!(with_rest(1, "1"), Answer::refused(8, 1));
     for text in ["a+", "()", "c"] {
-        assert_eq!(with_rest(2, text), (5, 0), "{text}");
+        assert_eq!(with_rest(2, text), Answer::refused(5, 0), "{text}");
     }
     let nested = |count: usize| "(".repeat(count) + "!a" + &")".repeat(count);
-    assert_eq!(with_rest(1, &nested(8)), (0, 0));
-    assert_eq!(with_rest(1, &nested(9)), (5, 0));
+    assert_eq!(with_rest(1, &nested(8)), Answer::done(0));
+    assert_eq!(with_rest(1, &nested(9)), Answer::refused(5, 0));
 }
 
 /// What two conditions say, as the moves of a state 0 that rests where they hold.
@@ -185,7 +185,7 @@ fn precedence() {
             &[(0, text), (1, &format!("!({text})"))],
             &[(0, 1, &format!("!({text})")), (1, 0, text)],
         );
-        machine(&file).3[setting] == 0
+        machine(&file).1[setting] == 0
     };
     assert!(held(3, "a+b.c", 1));
     assert!(!held(2, "!a.b", 0));
@@ -193,13 +193,37 @@ fn precedence() {
     assert!(!held(3, "(a+b).c", 1));
 }
 
+/// The rows on conditions, each asked as an evolution of a file that is its text alone.
+#[test]
+fn conditions() {
+    let holds = |inputs: usize, text: &str, setting: usize| {
+        let records = [Evolution { source: 0, target: 1, at: 0, length: text.len() as u8 }];
+        let by = |job: fn(&[Evolution], usize, &[u8], usize, usize) -> bool| {
+            job(&records, 0, text.as_bytes(), inputs, setting)
+        };
+        assert_eq!(by(mundrefol::evolution_holds), by(plain::evolution_holds), "{text}");
+        by(mundrefol::evolution_holds)
+    };
+    assert!(holds(3, "a+b.c", 1));
+    assert!(!holds(2, "!a.b", 0));
+    for text in ["a+", "()", "c"] {
+        for setting in 0..4 {
+            assert!(!holds(2, text, setting) && !holds(2, &format!("!({text})"), setting));
+        }
+    }
+    let nested = |count: usize| "(".repeat(count) + "a" + &")".repeat(count);
+    assert!(holds(1, &nested(8), 1));
+    assert!(!holds(1, &nested(9), 1) && !holds(1, &format!("!{}", nested(9)), 0));
+}
+
 /// Decision 1: no start, though every state is reached by some sequence of settings.
 #[test]
 fn reached_without_a_start() {
     let names = ["refused-12-never-reached", "refused-13-no-start"];
-    for (name, refusal) in names.iter().zip([(12, 2), (13, 0)]) {
+    for (name, (number, place)) in names.iter().zip([(12, 2), (13, 0)]) {
         let example = examples::all().into_iter().find(|example| example.name == *name);
         let contents = read(&example.expect("the example is there").bytes).contents;
-        assert_eq!((contents.number, contents.place), refusal);
+        let refusal = Answer::refused(number, place);
+        assert_eq!(contents, Contents { answer: refusal, ..Contents::default() });
     }
 }

@@ -1,11 +1,11 @@
-//! The folder `examples/`: its bytes, its expected sheets, and the program `target/bin/sheet` on them
-//! and on generated files.
+//! The folder `examples/`: its bytes, its expected sheets, the program `target/bin/sheet` on them and
+//! on generated files, also with little stack, and the words of the script `sheet` on refused ones.
 
 mod cases;
 
 use cases::try_cases;
-use mundrefol::generate::{damaged, settled_file};
-use mundrefol::plain::lines;
+use mundrefol::generate::{damaged, largest_file, settled_file};
+use mundrefol::plain::{lines, FILE};
 use mundrefol::{examples, plain};
 use std::collections::BTreeSet;
 use std::fs;
@@ -24,20 +24,29 @@ fn in_folder(name: &str) -> Vec<u8> {
     })
 }
 
+/// The program, which `rt check sheet` leaves.
+fn program() -> PathBuf {
+    let program = root().join("target/bin/sheet");
+    assert!(program.is_file(), "{}: run `rt check sheet` at the root first", program.display());
+    program
+}
+
 /// What the program prints for a file on standard input.
 fn printed(file: &[u8]) -> Vec<u8> {
-    let program = root().join("target/bin/sheet");
-    let mut child =
-        Command::new(&program).stdin(Stdio::piped()).stdout(Stdio::piped()).spawn().unwrap_or_else(
-            |error| {
-                panic!("{}: {error}; run `rt check sheet` at the root first", program.display())
-            },
-        );
+    printed_by(&mut Command::new(program()), file)
+}
+
+/// What a command prints for a file on standard input.
+fn printed_by(command: &mut Command, file: &[u8]) -> Vec<u8> {
+    let child = command.stdin(Stdio::piped()).stdout(Stdio::piped()).spawn();
+    let mut child = child.expect("the command runs");
     let mut input = child.stdin.take().expect("standard input is a pipe");
     // A program that refuses a file early need not read all of it.
     let _ = input.write_all(file);
     drop(input);
-    child.wait_with_output().expect("the program ends").stdout
+    let output = child.wait_with_output().expect("the program ends");
+    assert!(output.status.success(), "the program ended by {}", output.status);
+    output.stdout
 }
 
 fn assert_text(name: &str, left: &[u8], right: &[u8]) {
@@ -120,6 +129,22 @@ fn the_program_prints_the_sheets_of_generated_files() {
     });
 }
 
+/// With a stack of 1 MiB: every example, and the largest file.
+#[test]
+fn the_program_needs_little_stack() {
+    let with_little_stack = |file: &[u8]| {
+        let mut command = Command::new("sh");
+        command.args(["-c", "ulimit -s 1024 && exec \"$0\""]).arg(program());
+        printed_by(&mut command, file)
+    };
+    for example in examples::all() {
+        let sheet = in_folder(&format!("{}.sheet", example.name));
+        assert_text(example.name, &with_little_stack(&example.bytes), &sheet);
+    }
+    let largest = largest_file(FILE).bytes();
+    assert_text("largest", &with_little_stack(&largest), &plain::sheet(&largest));
+}
+
 /// A file over 65,535 bytes is refused by 1, however long.
 #[test]
 fn the_program_refuses_long_files() {
@@ -127,5 +152,56 @@ fn the_program_refuses_long_files() {
         let mut file = examples::lamp().bytes();
         file.resize(length, b'a');
         assert_text("long file", &printed(&file), b"REFUSED 1 0\n");
+    }
+}
+
+/// What the script says of each refused example: the refusal's number, then its words.
+const EXPLAINED: [(&str, &str); 13] = [
+    (
+        "refused-01-wrong-mark",
+        "1: the file is too long or too short, or its mark, contents or end are wrong",
+    ),
+    (
+        "refused-02-nine-inputs",
+        "2: a size is outside its range, or the sizes do not agree with the bodies: \
+         inputs 9, outputs 1, states 2, initial state 0",
+    ),
+    (
+        "refused-04-output-bit",
+        "4: state 1 has the output word 3, with a bit beyond the outputs (1)",
+    ),
+    (
+        "refused-05-does-not-read",
+        r#"5: the condition of evolution 1, from state 1 to 0, does not read: "!a+""#,
+    ),
+    ("refused-06-own-source", r#"6: evolution 2, from state 1 to 1, leads to its own source: "a""#),
+    (
+        "refused-07-same-states",
+        r#"7: evolution 2, from state 0 to 1, has the source and target of evolution 0: "a""#,
+    ),
+    ("refused-08-two-rules", "8: two rules hold for state 0 at setting 1 (a on)"),
+    ("refused-09-no-rule", "9: no rule holds for state 0 at setting 1 (a on)"),
+    (
+        "refused-10-transient",
+        "10: state 0 at setting 1 (a on) moves to a state that does not rest there",
+    ),
+    ("refused-11-same-word", "11: state 2 has the output word 1, as state 1 has"),
+    ("refused-12-never-reached", "12: state 2 is never reached from the initial state 0"),
+    ("refused-13-no-start", "13: there is no start: the initial state 0 rests at no setting"),
+    ("refused-16-long-plan", "16: the plan needs 80256 bytes, more than the 65536 there are"),
+];
+
+#[test]
+fn the_script_explains_each_refused_example() {
+    let refused = examples::all().into_iter().filter(|example| example.name.starts_with("refused"));
+    let names: Vec<&str> = refused.map(|example| example.name).collect();
+    assert_eq!(names, EXPLAINED.map(|(name, _)| name));
+    for (name, words) in EXPLAINED {
+        let path = root().join("examples").join(name);
+        let output = Command::new(root().join("sheet")).arg(&path).output();
+        let output = output.expect("the script `sheet` runs");
+        assert_eq!(output.status.code(), Some(1), "{name}");
+        let said = format!("sheet: {} is refused by {words}\n", path.display());
+        assert_text(name, &output.stderr, said.as_bytes());
     }
 }

@@ -1,5 +1,6 @@
-/* The lamp through the C entry points: layouts, reading, marks, plan, run, readings, log. */
+/* The lamp through the entry points, as C and as C++: layouts, reading, evolutions, marks, plan, run, readings, log. */
 
+#include <assert.h>
 #include <stdio.h>
 #include <stdlib.h>
 #include <string.h>
@@ -7,28 +8,29 @@
 #include "mundrefol.h"
 
 #define WORD sizeof(size_t)
-_Static_assert(sizeof(mundrefol_answer) == 2 * WORD, "answer");
-_Static_assert(offsetof(mundrefol_answer, place) == WORD, "answer.place");
-_Static_assert(sizeof(mundrefol_contents) == 7 * WORD, "contents");
-_Static_assert(offsetof(mundrefol_contents, place) == WORD, "contents.place");
-_Static_assert(offsetof(mundrefol_contents, inputs) == 2 * WORD, "contents.inputs");
-_Static_assert(offsetof(mundrefol_contents, outputs) == 3 * WORD, "contents.outputs");
-_Static_assert(offsetof(mundrefol_contents, states) == 4 * WORD, "contents.states");
-_Static_assert(offsetof(mundrefol_contents, initial) == 5 * WORD, "contents.initial");
-_Static_assert(offsetof(mundrefol_contents, evolutions) == 6 * WORD, "contents.evolutions");
-_Static_assert(sizeof(mundrefol_evolution) == 6, "evolution");
-_Static_assert(offsetof(mundrefol_evolution, target) == 1, "evolution.target");
-_Static_assert(offsetof(mundrefol_evolution, at) == 2, "evolution.at");
-_Static_assert(offsetof(mundrefol_evolution, length) == 4, "evolution.length");
-_Static_assert(sizeof(mundrefol_entry) == 6, "entry");
-_Static_assert(offsetof(mundrefol_entry, change) == 2, "entry.change");
-_Static_assert(offsetof(mundrefol_entry, second) == 4, "entry.second");
-_Static_assert(sizeof(mundrefol_log) == 204, "log");
-_Static_assert(offsetof(mundrefol_log, differing) == 4, "log.differing");
-_Static_assert(offsetof(mundrefol_log, kept) == 8, "log.kept");
-_Static_assert(offsetof(mundrefol_log, entries) == 12, "log.entries");
-_Static_assert(sizeof(mundrefol_noted) == 3 * WORD, "noted");
-_Static_assert(offsetof(mundrefol_noted, kind) == 2 * WORD, "noted.kind");
+static_assert(sizeof(mundrefol_answer) == 2 * WORD, "answer");
+static_assert(offsetof(mundrefol_answer, place) == WORD, "answer.place");
+static_assert(sizeof(mundrefol_frame) == 3 * WORD, "frame");
+static_assert(offsetof(mundrefol_frame, states) == WORD, "frame.states");
+static_assert(offsetof(mundrefol_frame, initial) == 2 * WORD, "frame.initial");
+static_assert(sizeof(mundrefol_contents) == 7 * WORD, "contents");
+static_assert(offsetof(mundrefol_contents, place) == WORD, "contents.place");
+static_assert(offsetof(mundrefol_contents, outputs) == 2 * WORD, "contents.outputs");
+static_assert(offsetof(mundrefol_contents, evolutions) == 3 * WORD, "contents.evolutions");
+static_assert(offsetof(mundrefol_contents, frame) == 4 * WORD, "contents.frame");
+static_assert(sizeof(mundrefol_evolution) == 6, "evolution");
+static_assert(offsetof(mundrefol_evolution, target) == 1, "evolution.target");
+static_assert(offsetof(mundrefol_evolution, at) == 2, "evolution.at");
+static_assert(offsetof(mundrefol_evolution, length) == 4, "evolution.length");
+static_assert(sizeof(mundrefol_entry) == 6, "entry");
+static_assert(offsetof(mundrefol_entry, change) == 2, "entry.change");
+static_assert(offsetof(mundrefol_entry, second) == 4, "entry.second");
+static_assert(sizeof(mundrefol_log) == 204, "log");
+static_assert(offsetof(mundrefol_log, differing) == 4, "log.differing");
+static_assert(offsetof(mundrefol_log, kept) == 8, "log.kept");
+static_assert(offsetof(mundrefol_log, entries) == 12, "log.entries");
+static_assert(sizeof(mundrefol_noted) == 3 * WORD, "noted");
+static_assert(offsetof(mundrefol_noted, kind) == 2 * WORD, "noted.kind");
 
 #define CHECK(holds)                                                        \
     do {                                                                    \
@@ -55,12 +57,12 @@ static void show(const char *what, const uint8_t *bytes, size_t count)
     printf("\n");
 }
 
-static void check_read(uint8_t table[5], uint16_t words[3], mundrefol_evolution records[3])
+static mundrefol_frame check_read(uint8_t table[5], uint16_t words[3], mundrefol_evolution records[3])
 {
     mundrefol_contents contents = mundrefol_read(lamp, sizeof lamp, table, 5, words, 3, records, 3);
-    CHECK(contents.number == 0 && contents.place == 0);
-    CHECK(contents.inputs == 1 && contents.outputs == 1 && contents.states == 2);
-    CHECK(contents.initial == 0 && contents.evolutions == 2);
+    mundrefol_frame frame = contents.frame;
+    CHECK(contents.number == 0 && contents.place == 0 && contents.outputs == 1 && contents.evolutions == 2);
+    CHECK(frame.inputs == 1 && frame.states == 2 && frame.initial == 0);
     CHECK(memcmp(table, "\0\1\0\1\x63", 5) == 0);
     CHECK(words[0] == 0 && words[1] == 1 && words[2] == 99);
     CHECK(records[0].source == 0 && records[0].target == 1 && records[0].at == 44 && records[0].length == 1);
@@ -68,42 +70,57 @@ static void check_read(uint8_t table[5], uint16_t words[3], mundrefol_evolution 
     CHECK(records[2].source == 99 && records[2].at == 99);
     show("table", table, 4);
     contents = mundrefol_read(lamp, sizeof lamp - 1, table, 5, words, 3, records, 3);
-    CHECK(contents.number == 1 && contents.place == 0 && contents.inputs == 0 && contents.states == 0);
+    CHECK(contents.number == 1 && contents.place == 0 && contents.outputs == 0 && contents.evolutions == 0);
+    CHECK(contents.frame.inputs == 0 && contents.frame.states == 0 && contents.frame.initial == 0);
     contents = mundrefol_read(lamp, sizeof lamp, table, 3, words, 3, records, 3);
     CHECK(contents.number == 3 && contents.place == 4);
+    return frame;
 }
 
-static void check_runs(const uint8_t *table)
+static void check_evolutions(const mundrefol_evolution *records)
+{
+    CHECK(!mundrefol_evolution_holds(records, 2, 0, lamp, sizeof lamp, 1, 0));
+    CHECK(mundrefol_evolution_holds(records, 2, 0, lamp, sizeof lamp, 1, 1));
+    CHECK(mundrefol_evolution_holds(records, 2, 1, lamp, sizeof lamp, 1, 0));
+    CHECK(!mundrefol_evolution_holds(records, 2, 1, lamp, sizeof lamp, 1, 1));
+    CHECK(!mundrefol_evolution_holds(records, 2, 2, lamp, sizeof lamp, 1, 1));
+    CHECK(!mundrefol_evolution_holds(records, 2, 1, lamp, sizeof lamp - 1, 1, 0));
+}
+
+static void check_runs(mundrefol_frame frame, const uint8_t *table)
 {
     uint16_t ranks[5] = {99, 99, 99, 99, 99};
     uint8_t plan[13], run[4];
     memset(plan, 99, sizeof plan);
     memset(run, 99, sizeof run);
-    mundrefol_answer answer = mundrefol_mark(1, 2, 0, table, 4, ranks, 5);
+    mundrefol_answer answer = mundrefol_mark(frame, table, 4, ranks, 5);
     CHECK(answer.number == 0 && answer.place == 0);
     CHECK(ranks[0] == 0 && ranks[1] == 1 && ranks[2] == 2 && ranks[3] == 1 && ranks[4] == 99);
-    answer = mundrefol_plan(1, 2, 0, table, 4, ranks, 5, plan, 11);
+    answer = mundrefol_plan(frame, table, 4, ranks, 5, plan, 11);
     CHECK(answer.number == 16 && answer.place == 12 && plan[0] == 99);
-    answer = mundrefol_plan(1, 2, 0, table, 4, ranks, 5, plan, 13);
+    answer = mundrefol_plan(frame, table, 4, ranks, 5, plan, 13);
     CHECK(answer.number == 0 && answer.place == 12);
     CHECK(memcmp(plan, "\1\0\0\2\0\0\1\3\0\0\1\0\x63", 13) == 0);
     show("plan", plan, 12);
-    answer = mundrefol_run_to(1, 2, 0, table, 4, ranks, 5, 2, run, 4);
+    answer = mundrefol_run_to(frame, table, 4, ranks, 5, 2, run, 4);
     CHECK(answer.number == 0 && answer.place == 3 && memcmp(run, "\0\1\0\x63", 4) == 0);
     show("run", run, 3);
-    answer = mundrefol_run_to(1, 2, 0, table, 4, ranks, 5, 4, run, 4);
+    answer = mundrefol_run_to(frame, table, 4, ranks, 5, 4, run, 4);
     CHECK(answer.number == 14 && answer.place == 0);
+    frame.initial = 2;
+    answer = mundrefol_mark(frame, table, 4, ranks, 5);
+    CHECK(answer.number == 2 && answer.place == 0);
 }
 
-static void check_readings(const uint8_t *table, const uint16_t *words)
+static void check_readings(mundrefol_frame frame, const uint8_t *table, const uint16_t *words)
 {
     const uint8_t run[3] = {0, 1, 0};
     uint16_t readings[6] = {99, 99, 99, 99, 99, 99};
     const uint16_t right[6] = {0, 1, 1, 0, 0, 99};
-    mundrefol_answer answer = mundrefol_expected(1, 2, 0, table, 4, words, 2, run, 3, readings, 6);
+    mundrefol_answer answer = mundrefol_expected(frame, table, 4, words, 2, run, 3, readings, 6);
     CHECK(answer.number == 0 && answer.place == 5);
     CHECK(memcmp(readings, right, sizeof right) == 0);
-    answer = mundrefol_expected(1, 2, 0, table, 4, words, 2, run + 1, 2, readings, 6);
+    answer = mundrefol_expected(frame, table, 4, words, 2, run + 1, 2, readings, 6);
     CHECK(answer.number == 17 && answer.place == 0);
     printf("readings %d %d %d %d %d\n", readings[0], readings[1], readings[2], readings[3], readings[4]);
 }
@@ -123,7 +140,7 @@ static void check_log(void)
     printf("log %u %u %u\n", (unsigned)log.readings, (unsigned)log.differing, (unsigned)log.kept);
     log.kept = 31;
     noted = mundrefol_update(&log, 3, 0, false, 0, 0);
-    CHECK(noted.number == 18 && noted.place == 0 && noted.kind == 0 && log.readings == 34);
+    CHECK(noted.number == 18 && noted.place == 0 && noted.kind == 3 && log.readings == 34);
 }
 
 int main(void)
@@ -131,9 +148,10 @@ int main(void)
     uint8_t table[5] = {99, 99, 99, 99, 99};
     uint16_t words[3] = {99, 99, 99};
     mundrefol_evolution records[3] = {{99, 99, 99, 99}, {99, 99, 99, 99}, {99, 99, 99, 99}};
-    check_read(table, words, records);
-    check_runs(table);
-    check_readings(table, words);
+    mundrefol_frame frame = check_read(table, words, records);
+    check_evolutions(records);
+    check_runs(frame, table);
+    check_readings(frame, table, words);
     check_log();
     return 0;
 }

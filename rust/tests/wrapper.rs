@@ -1,7 +1,12 @@
-//! The script `sheet`: status, standard output and standard error, on the examples with the program,
-//! and on programs that fail.
+//! The script `sheet`: status, standard output and standard error, on the examples and damaged files
+//! with the program, and on programs that fail.
 
-use mundrefol::examples;
+mod cases;
+
+use cases::try_cases;
+use mundrefol::file::File;
+use mundrefol::generate::damaged;
+use mundrefol::{examples, plain};
 use std::fs;
 use std::os::unix::fs::PermissionsExt;
 use std::path::{Path, PathBuf};
@@ -71,29 +76,119 @@ fn printing(name: &str, printed: &str, end: &str) -> Output {
     sheet(&root, &[root.join("file").to_str().expect("the path is text")])
 }
 
-/// A program that fails, stops early or prints something else is neither a sheet nor a refusal.
+/// Neither a sheet nor a refusal, and nothing of it on standard output.
+#[track_caller]
+fn assert_failed(output: &Output) {
+    assert_eq!(status(output), 2, "{}", words(output));
+    assert!(output.stdout.is_empty() && !output.stderr.is_empty(), "{}", words(output));
+}
+
+/// A program that fails, stops within a line, prints something else or says something on standard
+/// error.
 #[test]
 fn failing_programs() {
     let lamp = "INPUTS 1 STATES 2 COUPLES 4 MARKED 4\nRANK 0 1\nRANK 1 2\nRANK 2 1\nRUN 1 0\nRUN 2 0 1\nRUN 3 0 1 0\n";
-    assert_eq!(status(&printing("whole", lamp, "exit 0")), 0);
+    let whole = printing("whole", lamp, "exit 0");
+    assert_eq!((status(&whole), &whole.stdout[..]), (0, lamp.as_bytes()));
     assert_eq!(status(&printing("refusal", "REFUSED 8 1\n", "exit 0")), 1);
-    let cut = |end: usize| lamp[..end].to_string();
-    let mut wrong: Vec<String> = (0..lamp.len()).map(cut).collect();
-    wrong.extend(
-        ["REFUSED\n", "REFUSED 8\n", "REFUSED 0 0\n", "REFUSED 8 1\nRUN 1 0\n", "REFUSED 8 1"]
-            .map(str::to_string),
-    );
-    wrong.push(lamp.replace("RUN 2", "RUN 4"));
-    wrong.push(lamp.replace("RANK 1 2", "RANK 1 3"));
-    wrong.push(lamp.replace("RUN 1 0", "RUN 1  0"));
-    wrong.push(format!("{lamp}\n"));
+    let mut wrong: Vec<&str> = (0..lamp.len()).map(|end| &lamp[..end]).collect();
+    wrong.retain(|printed| !printed.ends_with('\n'));
+    wrong.extend(["REFUSED 8 1", "REFUSED 8 1\nR", "\n", "SHEET\n", " INPUTS 1\n", "\nINPUTS 1\n"]);
     for (index, printed) in wrong.iter().enumerate() {
-        let output = printing(&format!("wrong-{index}"), printed, "exit 0");
-        assert_eq!(status(&output), 2, "{printed}");
-        assert!(output.stdout.is_empty(), "{printed}");
+        assert_failed(&printing(&format!("wrong-{index}"), printed, "exit 0"));
     }
-    assert_eq!(status(&printing("status", lamp, "exit 3")), 2);
-    assert_eq!(status(&printing("signal", lamp, "kill -9 $$")), 2);
+    for (index, end) in ["exit 3", "kill -9 $$", "echo no >&2", "echo >&2"].iter().enumerate() {
+        assert_failed(&printing(&format!("end-{index}"), lamp, end));
+        assert_failed(&printing(&format!("refused-end-{index}"), "REFUSED 8 1\n", end));
+    }
+}
+
+/// Two bytes of a file, low byte first; 0 beyond its end.
+fn two(file: &[u8], at: usize) -> usize {
+    file.get(at..at + 2).map_or(0, |bytes| usize::from(bytes[0]) + 256 * usize::from(bytes[1]))
+}
+
+/// Words that the explanation of a refusal has: those of the couple or evolution, or the place.
+fn named(file: &[u8], number: usize, place: usize) -> String {
+    let states = || usize::from(file[27]);
+    match number {
+        1 | 2 | 13 => String::new(),
+        8..=10 => {
+            let settings = 1 << file[25];
+            format!("state {} at setting {} (", place / settings, place % settings)
+        }
+        4..=7 if place >= states() => {
+            let evolution = place - states();
+            let (source, target) =
+                (two(file, 16) + 3 * evolution, two(file, 16) + 3 * evolution + 1);
+            format!("evolution {evolution}, from state {} to {}, ", file[source], file[target])
+        }
+        16 => format!(" {place} bytes"),
+        _ => format!("state {place} "),
+    }
+}
+
+/// Conditions as they are shown, and settings by the inputs that are on.
+#[test]
+fn words_of_a_refusal() {
+    let explained = |inputs: u8, rest: &str, condition: &str| {
+        let path = PathBuf::from(env!("CARGO_TARGET_TMPDIR")).join("explained");
+        let states = [(0, rest), (1, "1")];
+        let file = File::new(inputs, 1, &states, &[(0, 1, condition)]).bytes();
+        fs::write(&path, file).expect("the file is written");
+        let said = words(&sheet(&root(), &[path.to_str().expect("the path is text")]));
+        let (_, said) = said.split_once(" is refused by ").expect("the file is refused");
+        said.trim_end().to_string()
+    };
+    for (text, shown) in [
+        ("", ""),
+        ("a\n", r"a\0a"),
+        ("\u{0}\u{7f}~ ", r"\00\7f~ "),
+        ("$(no)`no`'\"%s\\", r#"$(no)`no`'"%s\5c"#),
+        ("é", r"\c3\a9"),
+    ] {
+        let rest = format!("5: the rest condition of state 0 does not read: \"{shown}\"");
+        assert_eq!(explained(1, text, "a"), rest);
+        let leaving = format!(
+            "5: the condition of evolution 0, from state 0 to 1, does not read: \"{shown}\""
+        );
+        assert_eq!(explained(1, "!a", text), leaving);
+    }
+    for (inputs, rest, place) in [
+        (3, "!(a.!b.c)", "state 0 at setting 5 (a, c on)"),
+        (8, "!h+!g+a", "state 0 at setting 192 (g, h on)"),
+        (1, "a", "state 0 at setting 0 (no input on)"),
+    ] {
+        assert_eq!(explained(inputs, rest, "0"), format!("9: no rule holds for {place}"));
+    }
+}
+
+/// Whatever is wrong with a file: its refusal, and one line of plain characters that names the place.
+#[test]
+fn damaged_files_are_explained() {
+    let path = PathBuf::from(env!("CARGO_TARGET_TMPDIR")).join("damaged");
+    let path = path.to_str().expect("the path is text");
+    try_cases("script", 250, &[0, 1], |random| {
+        let file = damaged(random);
+        let right = plain::sheet(&file);
+        fs::write(path, &file).expect("the file is written");
+        let output = sheet(&root(), &[path]);
+        assert!(output.stdout == right);
+        let Some(refusal) = right.strip_prefix(b"REFUSED ") else {
+            assert_eq!((status(&output), words(&output).as_str()), (0, ""));
+            return 0;
+        };
+        assert_eq!(status(&output), 1);
+        let refusal = String::from_utf8_lossy(refusal);
+        let (number, place) = refusal.trim_end().split_once(' ').expect("a number and a place");
+        let (line, rest) = output.stderr.split_at(output.stderr.len() - 1);
+        assert!(rest == b"\n" && line.iter().all(|byte| (b' '..=b'~').contains(byte)));
+        let said = words(&output);
+        assert!(said.starts_with(&format!("sheet: {path} is refused by {number}: ")), "{said}");
+        let [number, place] = [number, place].map(|it| it.parse().expect("a number"));
+        assert!(said.contains(&named(&file, number, place)), "{said}");
+        1
+    });
 }
 
 /// Without the program, it is built by `rt check sheet`; without `rt`, or if that fails, status 2.

@@ -1,35 +1,22 @@
-// What C and Rust link (include/mundrefol.h): thin exports over the proved libraries, their answers in structs of C.
+// What C and Rust link (include/mundrefol.h): thin exports over the proved libraries.
 ghost use mathlib.Core.Path.{_≡_};
-ghost use Rattle.machine.specs.Runs.{machine};
+ghost use lib.ListN.{getD};
+ghost use Rattle.verdict.specs.Checks.{Decides};
+ghost use Rattle.machine.specs.Runs.{machineOf};
+ghost use Rattle.specification.specs.Evolutions.{blank, Met};
 ghost use Rattle.specification.specs.Reading.{ReadAs};
 ghost use Rattle.marking.specs.Marking.{MarkedAs};
 ghost use Rattle.plan.specs.Planning.{RunAs, PlannedAs};
 ghost use Rattle.readings.specs.Expected.{ExpectedAs};
 ghost use Rattle.bench.specs.Log.{Reading, numberOf, placeOf, kindOf, updateOf};
-ghost use Rattle.abi.specs.Answers.{contentsOf, answerOf, outcomeOf};
+ghost use Rattle.abi.specs.Answers.{outcomeOf};
 use bench::Log;
+use machine::Frame;
+use specification::Contents;
 use specification::Evolution;
+use verdict::Answer;
 
-// What reading a file answers: its number and place, and the sizes of the file, all zero on refusal.
-#[repr(C)]
-pub struct Contents {
-    pub number: usize,
-    pub place: usize,
-    pub inputs: usize,
-    pub outputs: usize,
-    pub states: usize,
-    pub initial: usize,
-    pub evolutions: usize,
-}
-
-// A number and a place.
-#[repr(C)]
-pub struct Answer {
-    pub number: usize,
-    pub place: usize,
-}
-
-// What an update of a log answers: its number and place, and kind 0 for equal, 1 for stored, 2 for full; 0 with a refusal.
+// What an update of a log answers: its number and place, and kind 0 for equal, 1 for stored, 2 for full, 3 with a refusal.
 #[repr(C)]
 pub struct Noted {
     pub number: usize,
@@ -45,71 +32,72 @@ pub extern "C" fn mundrefol_read(
     words: &mut [u16],
     records: &mut [Evolution],
 ) -> Contents
-    ensures { λ r. ⌜ ReadAs (now (file .entry)) (now (table .entry)) (now (words .entry)) (now (records .entry)) (contentsOf r) (now (table .exit)) (now (words .exit)) (now (records .exit)) ⌝ }
+    ensures { λ r. ⌜ ReadAs (now (file .entry)) (now (table .entry)) (now (words .entry)) (now (records .entry)) r (now (table .exit)) (now (words .exit)) (now (records .exit)) ⌝ }
 {
-    let contents = specification::read(file, table, words, records);
-    flattened(contents)
+    specification::read(file, table, words, records)
+}
+
+// `specification::evolution_holds`.
+#[no_mangle]
+pub extern "C" fn mundrefol_evolution_holds(
+    records: &[Evolution],
+    evolution: usize,
+    file: &[u8],
+    inputs: usize,
+    setting: usize,
+) -> bool
+    ensures { λ r. ⌜ Decides (Met (now (file .entry)) (getD (now (records .entry)) evolution blank) inputs setting) r ⌝ }
+{
+    specification::evolution_holds(records, evolution, file, inputs, setting)
 }
 
 // `marking::mark`.
 #[no_mangle]
-pub extern "C" fn mundrefol_mark(
-    inputs: usize,
-    states: usize,
-    initial: usize,
-    table: &[u8],
-    ranks: &mut [u16],
-) -> Answer
-    ensures { λ r. ⌜ MarkedAs (machine inputs states initial (now (table .entry))) (now (ranks .entry)) (answerOf r) (now (ranks .exit)) ⌝ }
+pub extern "C" fn mundrefol_mark(frame: Frame, table: &[u8], ranks: &mut [u16]) -> Answer
+    ensures { λ r. ⌜ MarkedAs (machineOf frame (now (table .entry))) (now (ranks .entry)) r (now (ranks .exit)) ⌝ }
 {
-    answered(marking::mark(inputs, states, initial, table, ranks))
+    marking::mark(frame, table, ranks)
 }
 
 // `plan::run_to`.
 #[no_mangle]
 pub extern "C" fn mundrefol_run_to(
-    inputs: usize,
-    states: usize,
-    initial: usize,
+    frame: Frame,
     table: &[u8],
     ranks: &mut [u16],
     couple: usize,
     run: &mut [u8],
 ) -> Answer
-    ensures { λ r. ⌜ RunAs (machine inputs states initial (now (table .entry))) couple (now (ranks .entry)) (now (run .entry)) (answerOf r) (now (ranks .exit)) (now (run .exit)) ⌝ }
+    ensures { λ r. ⌜ RunAs (machineOf frame (now (table .entry))) couple (now (ranks .entry)) (now (run .entry)) r (now (ranks .exit)) (now (run .exit)) ⌝ }
 {
-    answered(plan::run_to(inputs, states, initial, table, ranks, couple, run))
+    plan::run_to(frame, table, ranks, couple, run)
 }
 
 // `plan::plan`.
 #[no_mangle]
 pub extern "C" fn mundrefol_plan(
-    inputs: usize,
-    states: usize,
-    initial: usize,
+    frame: Frame,
     table: &[u8],
     ranks: &mut [u16],
     plan: &mut [u8],
 ) -> Answer
-    ensures { λ r. ⌜ PlannedAs (machine inputs states initial (now (table .entry))) (now (ranks .entry)) (now (plan .entry)) (answerOf r) (now (ranks .exit)) (now (plan .exit)) ⌝ }
+    ensures { λ r. ⌜ PlannedAs (machineOf frame (now (table .entry))) (now (ranks .entry)) (now (plan .entry)) r (now (ranks .exit)) (now (plan .exit)) ⌝ }
 {
-    answered(plan::plan(inputs, states, initial, table, ranks, plan))
+    plan::plan(frame, table, ranks, plan)
 }
 
 // `readings::expected`.
 #[no_mangle]
 pub extern "C" fn mundrefol_expected(
-    inputs: usize,
-    states: usize,
-    initial: usize,
+    frame: Frame,
     table: &[u8],
     words: &[u16],
     run: &[u8],
     readings: &mut [u16],
 ) -> Answer
-    ensures { λ r. ⌜ ExpectedAs (machine inputs states initial (now (table .entry))) (now (words .entry)) (now (run .entry)) (now (readings .entry)) (answerOf r) (now (readings .exit)) ⌝ }
+    ensures { λ r. ⌜ ExpectedAs (machineOf frame (now (table .entry))) (now (words .entry)) (now (run .entry)) (now (readings .entry)) r (now (readings .exit)) ⌝ }
 {
-    answered(readings::expected(inputs, states, initial, table, words, run, readings))
+    readings::expected(frame, table, words, run, readings)
 }
 
 // `bench::update`.
@@ -128,31 +116,6 @@ pub extern "C" fn mundrefol_update(
     in_numbers(answer)
 }
 
-// The number and the place beside the sizes.
-fn flattened(contents: specification::Contents) -> Contents
-    ensures { λ r. ⌜ contentsOf r ≡ contents ⌝ }
-{
-    let answer = contents.answer;
-    Contents {
-        number: answer.number as usize,
-        place: answer.place,
-        inputs: contents.inputs,
-        outputs: contents.outputs,
-        states: contents.states,
-        initial: contents.initial,
-        evolutions: contents.evolutions,
-    }
-}
-
-fn answered(answer: verdict::Answer) -> Answer
-    ensures { λ r. ⌜ answerOf r ≡ answer ⌝ }
-{
-    Answer {
-        number: answer.number as usize,
-        place: answer.place,
-    }
-}
-
 // Document 01's number and place of an answer, and its kind.
 fn in_numbers(answer: bench::Noted) -> Noted
     ensures { λ r. ⌜ r ≡ record { number = numberOf answer; place = placeOf answer; kind = kindOf answer } ⌝ }
@@ -161,7 +124,7 @@ fn in_numbers(answer: bench::Noted) -> Noted
         bench::Noted::Equal => told(0, 0),
         bench::Noted::Stored => told(0, 1),
         bench::Noted::Full => told(0, 2),
-        bench::Noted::Refused => told(18, 0),
+        bench::Noted::Refused => told(18, 3),
     }
 }
 

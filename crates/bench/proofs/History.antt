@@ -12,7 +12,7 @@ use lib.Seq.{take-all, take-append-le, drop-cons, set-append-seam, append-snoc}
 use borrow.Author.Tests.{ltb-true, ltb-false, lt-ltb, le-ltb, eq-eqb, ne-eqb}
 use Rattle.bench.specs.declared.Entry.{Entry}
 use Rattle.bench.specs.declared.Log.{Log}
-use Rattle.bench.specs.Log.{Reading, mostEntries, mostReadings, differs, entryOf, sound, refuses, equal, stored, full, noted, updateOf}
+use Rattle.bench.specs.Log.{Reading, mostEntries, mostReadings, differs, entryOf, sound, refuses, equal, stored, full, refused, noted, updateOf}
 use Rattle.bench.specs.History.{freshLog, after, accepted, differences, firstOf, History}
 use Rattle.bench.proofs.Soundness.{sound-is, refused-log, noted-log}
 
@@ -116,11 +116,12 @@ few n false e = le-ltb (min mostEntries n) mostEntries (omega (arith, ltb-false 
 room : (rs : List Reading) → ltb (length (firstOf rs)) mostEntries ≡ ltb (length (differences rs)) mostEntries
 room rs = rw (length-take mostEntries (map entryOf (differences rs)), length-map (differences rs) entryOf) (few (length (differences rs)) (ltb (length (differences rs)) mostEntries) refl)
 
-kind-by : (rs : List Reading) (r : Reading) (d : Bool) → refuses (logOf rs) ≡ false → differs r ≡ d
-    → updateOf (logOf rs) r .kind ≡ cond d (cond (ltb (length (differences rs)) mostEntries) stored full) equal
+kind-by : (rs : List Reading) (r : Reading) (t d : Bool) → refuses (logOf rs) ≡ t → differs r ≡ d
+    → updateOf (logOf rs) r .kind ≡ cond t refused (cond d (cond (ltb (length (differences rs)) mostEntries) stored full) equal)
 unfolding updateOf
-kind-by rs r true t e = simp (t, e) (rw (room rs))
-kind-by rs r false t e = simp (t, e)
+kind-by rs r true d t e = simp t
+kind-by rs r false true t e = simp (t, e) (rw (room rs))
+kind-by rs r false false t e = simp (t, e)
 
 -- ---- the theorem
 logged : (updates rs : List Reading) → rs ≡ take mostReadings updates → History updates rs (logOf rs)
@@ -132,7 +133,7 @@ logged updates rs e = record {
   entries = refl;
   soundness = sound-logOf rs;
   number = λ r. number-by (logOf rs) r (eqb (length rs) mostReadings) (refuses-logOf rs);
-  kind = λ r h. kind-by rs r (differs r) (refuses-logOf rs ∙ ne-eqb (length rs) mostReadings (λ z. omega arith)) refl;
+  kind = λ r. kind-by rs r (eqb (length rs) mostReadings) (differs r) (refuses-logOf rs) refl;
 }
 
 -- from a fresh log, any list of updates leaves the log of its history

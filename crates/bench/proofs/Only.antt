@@ -1,15 +1,15 @@
--- An update has one outcome: number and kind tell the four answers apart, so its answer and the log after it are fixed by the log before and the reading.
+-- An update has one outcome: its kind tells the four answers apart, so its answer and the log after it are fixed by the log before and the reading.
 use mathlib.Core.Path.{_≡_, refl, sym, ap, _∙_}
 use mathlib.Core.Bool.{cond}
 use lib.Dec.{eqb}
 use Rattle.bench.specs.declared.Log.{Log}
 use Rattle.bench.specs.declared.Noted.{Noted}
 use Rattle.bench.specs.declared.Noted.the-variants.{Equal, Stored, Full, Refused}
-use Rattle.bench.specs.Log.{Reading, Outcome, stored, full, outcome, updateOf}
+use Rattle.bench.specs.Log.{Reading, Outcome, stored, full, refused, outcome, updateOf}
 
--- the answer with this number and kind
+-- the answer of this kind
 abbrev answerOf : Outcome → Noted
-answerOf o = cond (eqb (o .number) 18) Refused (cond (eqb (o .kind) full) Full (cond (eqb (o .kind) stored) Stored Equal))
+answerOf o = cond (eqb (o .kind) refused) Refused (cond (eqb (o .kind) full) Full (cond (eqb (o .kind) stored) Stored Equal))
 
 answer-back : (a : Noted) (l : Log) → answerOf (outcome a l) ≡ a
 answer-back Equal l = refl

@@ -1,5 +1,4 @@
 -- A log over its history (document 01): what any list of updates makes of a fresh log.
-use Prim.Native.Nat.{_<_}
 use mathlib.Core.Path.{_≡_}
 use mathlib.Core.Bool.{true, false, cond}
 use mathlib.Core.List.{List, [], _∷_, _++_, map}
@@ -7,7 +6,7 @@ use lib.Dec.{ltb, eqb}
 use lib.ListN.{length, take, drop, replicate}
 use Rattle.bench.specs.declared.Entry.{Entry}
 use Rattle.bench.specs.declared.Log.{Log}
-use Rattle.bench.specs.Log.{Reading, mostEntries, mostReadings, differs, entryOf, sound, refuses, equal, stored, full, updateOf}
+use Rattle.bench.specs.Log.{Reading, mostEntries, mostReadings, differs, entryOf, sound, refuses, equal, stored, full, refused, updateOf}
 
 -- a fresh log, all zero
 abbrev pub freshLog : Log
@@ -48,4 +47,4 @@ pub record History (updates taken : List Reading) (l : Log) : Type 0 where
   -- the next reading is refused exactly where 4,294,967,295 were accepted
   pub number : (r : Reading) → updateOf l r .number ≡ cond (eqb (length taken) mostReadings) 18 0
   -- else it answers equal where its words are equal, stored up to the 32nd difference, and full from the 33rd on
-  pub kind : (r : Reading) → length taken < mostReadings → updateOf l r .kind ≡ cond (differs r) (cond (ltb (length (differences taken)) mostEntries) stored full) equal
+  pub kind : (r : Reading) → updateOf l r .kind ≡ cond (eqb (length taken) mostReadings) refused (cond (differs r) (cond (ltb (length (differences taken)) mostEntries) stored full) equal)

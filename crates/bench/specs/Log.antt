@@ -32,7 +32,7 @@ differs r = not (eqb (r .expected) (r .seen))
 abbrev pub stores : Log → Reading → Bool
 stores l r = differs r && ltb (l .kept) mostEntries
 
--- it answers equal, stored, or full
+-- it answers equal, stored, or full; a refused one has a kind of its own
 abbrev pub equal : ℕ
 equal = 0
 
@@ -41,6 +41,9 @@ stored = 1
 
 abbrev pub full : ℕ
 full = 2
+
+abbrev pub refused : ℕ
+refused = 3
 
 abbrev pub kindAt : Log → Reading → ℕ
 kindAt l r = cond (differs r) (cond (stores l r) stored full) equal
@@ -80,7 +83,7 @@ pub record Outcome : Type 0 where
 -- after 18 nothing changes
 unfoldable pub updateOf : Log → Reading → Outcome
 updateOf l r = cond (refuses l)
-    (record { number = 18; place = 0; kind = 0; log = l })
+    (record { number = 18; place = 0; kind = refused; log = l })
     (record { number = 0; place = 0; kind = kindAt l r; log = noted l r })
 
 -- document 01's number and place for each answer, and its kind
@@ -97,7 +100,7 @@ abbrev pub kindOf : Noted → ℕ
 kindOf Equal = equal
 kindOf Stored = stored
 kindOf Full = full
-kindOf Refused = 0
+kindOf Refused = refused
 
 abbrev pub outcome : Noted → Log → Outcome
 outcome a l = record { number = numberOf a; place = placeOf a; kind = kindOf a; log = l }

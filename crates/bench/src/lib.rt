@@ -1,6 +1,6 @@
 // The bench log: one record, lent to the bench and updated at each reading.
 ghost use mathlib.Core.Path.{_≡_};
-ghost use Rattle.bench.specs.Log.{Reading, refuses, outcome, updateOf};
+ghost use Rattle.bench.specs.Log.{refuses, outcome, updateOf};
 ghost use Rattle.bench.specs.History.{freshLog};
 
 // The log keeps the first 32 differences, and counts up to 4,294,967,295 readings.

@@ -2,19 +2,20 @@
 use mathlib.Core.Path.{refl}
 use mathlib.Core.Bool.{true, false}
 use native.Mathlib.Omega.{arith}
-use Rattle.condition.specs.Grammar.{one, more, bang, input, bytes, text, opened, Below, holds}
+use Rattle.basics.specs.Texts.{letters}
+use Rattle.condition.specs.Grammar.{one, more, bang, input, text, opened, Below, holds}
 use Rattle.condition.specs.Condition.{Says}
 use Rattle.condition.specs.declared.Meaning.the-variants.{Is}
 use Rattle.condition.proofs.Says.{value-says}
 
 -- `a+b.c` at setting 1 (only a on) holds
-pub and-before-or : Says 3 1 (bytes "a+b.c") (Is true)
+pub and-before-or : Says 3 1 (letters "a+b.c") (Is true)
 unfolding text opened Below holds
 and-before-or =
     value-says (record { tree = more (one (input 0)) (one (more (input 1) (one (input 2)))); spelt = refl; nested = omega arith; known = omega arith }) refl
 
 -- `!a.b` at setting 0 does not hold
-pub not-before-and : Says 2 0 (bytes "!a.b") (Is false)
+pub not-before-and : Says 2 0 (letters "!a.b") (Is false)
 unfolding text opened Below holds
 not-before-and =
     value-says (record { tree = one (more (bang (input 0)) (one (input 1))); spelt = refl; nested = omega arith; known = omega arith }) refl

@@ -8,12 +8,13 @@ use mathlib.Core.List.{List, [], _∷_, _++_, append-assoc, append-nil}
 use native.Mathlib.Omega.{arith}
 use lib.ListN.{length, take, drop, getD, length-append, length-drop, drop-of-length-le}
 use lib.Seq.{take-append-add, take-append-seam}
+use Rattle.machine.specs.Limits.{mostInputs}
 use Rattle.condition.specs.Grammar.{Level, Join, or, and, factor, joined, part, byte, joins, condition, Tree, off, text, holds, opened, Below}
-use Rattle.condition.specs.Parts.{At, Ends, NotFirst, Reading, Skipped, flipped, Found, reads, stops, FoundTo, Failed, FailedAt}
+use Rattle.condition.specs.inner.Parts.{At, Ends, NotFirst, Reading, Skipped, flipped, Found, reads, stops, FoundTo, Failed, FailedAt}
 use Rattle.condition.specs.declared.Part.{Part}
 use Rattle.condition.specs.declared.Part.the-variants.{Value, Bad}
 use Rattle.condition.proofs.Trees.{same, close-ends}
-use Rattle.condition.proofs.Lists.{front, agree-front, none-same, first-same, ends-same, not-first-same}
+use Rattle.condition.proofs.Lists.{front, at-front, not-front, agree-front, none-same, first-same, ends-same, not-first-same}
 use Rattle.condition.proofs.Readings.{nothing, enclosed, inside, no-single, of-same, before, alone, first, Passed, passed-more}
 
 -- what was found, where the answer is known
@@ -90,14 +91,12 @@ module _ {n : ℕ} (s : List ℕ) (at : ℕ) (h : at < length s) where
     value = says;
   }
 
-  pub single-fails : {d : ℕ} → NotFirst (code "!") (drop at s) → NotFirst (code "(") (drop at s) → (getD s at 0 ≡ code "0" → ⊥) → (getD s at 0 ≡ code "1" → ⊥)
-      → ((k : ℕ) → k < n → getD s at 0 ≡ code "a" + k → ⊥) → FailedAt factor n d s at at
-  single-fails bare not-open off-not on-not letter-not =
+  pub single-fails : {d : ℕ} → (At s at (code "!") → ⊥) × (At s at (code "(") → ⊥) → (getD s at 0 ≡ code "0" → ⊥) → (getD s at 0 ≡ code "1" → ⊥)
+      → ((k : ℕ) → (k < n) × (k < mostInputs) → getD s at 0 ≡ code "a" + k → ⊥) → FailedAt factor n d s at at
+  single-fails bare off-not on-not letter-not =
       fails-here s at (λ w r e x.
-      let q = first-same w e (front s at h) in
-      let e′ = ap (take 1) (sym (q .1)) ∙ e in
-      no-single (not-first-same (code "!") (getD s at 0 ∷ q .0) (drop at s) e′ bare) (not-first-same (code "(") (getD s at 0 ∷ q .0) (drop at s) e′ not-open)
-      off-not on-not letter-not (of-same (sym (q .1)) refl x))
+      no-single (λ e. bare .0 (record { within = h; is = e })) (λ e. bare .1 (record { within = h; is = e })) off-not on-not letter-not
+      (x .tree) r (sym (first-same w e (front s at h) .1) ∙ x .spelt) (x .known))
 
 -- a factor behind `!`
 not-same : (f b : Bool) → flipped f b ≡ not (Bool·beq f b)
@@ -129,7 +128,7 @@ module _ {n d : ℕ} {s : List ℕ} {at from : ℕ} {negates : Bool} (k : Skippe
 -- a condition in parentheses: closed, failing inside them, not closed, and a parenthesis too many
 module _ {n d : ℕ} {s : List ℕ} {at : ℕ} (here : At s at (code "(")) where
   pub one-too-many : d ≡ 0 → FailedAt factor n d s at at
-  one-too-many h = fails-here s at (λ w r e x. let y = inside {d′ = 0} (omega arith) (first-same w e (here .front) .1) x .0 in omega arith)
+  one-too-many h = fails-here s at (λ w r e x. let y = inside {d′ = 0} (omega arith) (first-same w e (at-front here) .1) x .0 in omega arith)
 
   module _ {d′ : ℕ} (h : d ≡ suc d′) where
     pub closed-found : {v : ℕ} {b : Bool} {end : ℕ} → FoundTo condition n v d′ s (at + 1) b end → At s end (code ")") → FoundTo factor n v d s at b (end + 1)
@@ -138,7 +137,7 @@ module _ {n d : ℕ} {s : List ℕ} {at : ℕ} (here : At s at (code "(")) where
       later = omega (arith, x .later);
       within = omega (arith, close .within);
       ends = tt;
-      reading = of-same (here .front) refl (enclosed (omega arith) (of-same refl (close .front) (x .reading)));
+      reading = of-same (at-front here) refl (enclosed (omega arith) (of-same refl (at-front close) (x .reading)));
       value = x .value;
     }
 
@@ -153,7 +152,7 @@ module _ {n d : ℕ} {s : List ℕ} {at : ℕ} (here : At s at (code "(")) where
         record {
           passed = suc m;
           count = omega (arith, f .count);
-          failed = fails-same (here .front) (record {
+          failed = fails-same (at-front here) (record {
             short = omega (arith, f .failed .short);
             alive = (q ++ code ")" ∷ [], enclosed (omega arith) (of-same closed refl (before y (code ")" ∷ []))));
             dead = λ w′ r a u x.
@@ -162,7 +161,7 @@ module _ {n d : ℕ} {s : List ℕ} {at : ℕ} (here : At s at (code "(")) where
           });
         }
 
-    pub unclosed-fails : {v : ℕ} {b : Bool} {end : ℕ} → FoundTo condition n v d′ s (at + 1) b end → NotFirst (code ")") (drop end s) → FailedAt factor n d s at end
+    pub unclosed-fails : {v : ℕ} {b : Bool} {end : ℕ} → FoundTo condition n v d′ s (at + 1) b end → (At s end (code ")") → ⊥) → FailedAt factor n d s at end
     unfolding before
     unclosed-fails {end = end} f not-close =
         let x = f .reading in
@@ -172,14 +171,14 @@ module _ {n d : ℕ} {s : List ℕ} {at : ℕ} (here : At s at (code "(")) where
         record {
           passed = length p;
           count = omega (arith, span f);
-          failed = fails-same (here .front ∙ ap (code "(" ∷_) (x .spelt)) (record {
+          failed = fails-same (at-front here ∙ ap (code "(" ∷_) (x .spelt)) (record {
             short = simp length-append (omega arith);
             alive = (code ")" ∷ [], of-same (ap (_++ code ")" ∷ []) (take-append-seam p r)) refl (enclosed (omega arith) (before x (code ")" ∷ []))));
             dead = λ w′ r′ a u y.
                 let z = agree-front p w′ r (length p) 0 (omega arith) a in
                 let c : Reading condition n d′ (t ++ z .0) (code ")" ∷ r′) = inside (omega arith) (z .1) y .1 in
                 let q = same (x .tree) (c .tree) (z .0) (code ")" ∷ r′) (ends-same condition (z .0) r (z .2) (f .ends)) (close-ends r′) (c .spelt) in
-                not-first-same (code ")") (z .0) r (z .2) not-close r′ (q .1);
+                not-first-same (code ")") (z .0) r (z .2) (not-front not-close) r′ (q .1);
           });
         }
 
@@ -189,21 +188,21 @@ ends-both or r e h = (e, h)
 ends-both and r e h = h
 
 module _ (j : Join) {n v d : ℕ} {s : List ℕ} {at from : ℕ} {acc : Bool} (p : Passed j n v d s at from acc) where
-  pub join-found : {b : Bool} {end : ℕ} → FoundTo (part j) n v d s from b end → NotFirst (byte j) (drop end s) → FoundTo (joined j) n v d s at (joins j acc b) end
+  pub join-found : {b : Bool} {end : ℕ} → FoundTo (part j) n v d s from b end → (At s end (byte j) → ⊥) → FoundTo (joined j) n v d s at (joins j acc b) end
   unfolding holds alone of-same
   join-found {b} {end} x ne =
       let y = p .extend (drop from s) (drop end s) (alone (x .reading)) in
       record {
         later = omega (arith, x .later, p .count);
         within = x .within;
-        ends = ends-both j (drop end s) (x .ends) ne;
+        ends = ends-both j (drop end s) (x .ends) (not-front ne);
         reading = of-same (p .spelt) refl (y .0);
         value = y .1 ∙ ap (joins j acc) (x .value);
       }
 
   pub join-more : {b : Bool} {end : ℕ} → FoundTo (part j) n v d s from b end → At s end (byte j) → Passed j n v d s at (end + 1) (joins j acc b)
   unfolding of-same
-  join-more x h = passed-more j p (of-same refl (h .front) (x .reading)) (x .value) (span x)
+  join-more x h = passed-more j p (of-same refl (at-front h) (x .reading)) (x .value) (span x)
 
   pub join-fails : {place : ℕ} → FailedAt (part j) n d s from place → FailedAt (joined j) n d s at place
   join-fails f = record {

@@ -7,8 +7,10 @@ use mathlib.Core.Bool.{Bool, true, false, not}
 use mathlib.Core.List.{List, [], _∷_, _++_, append-assoc, head-eq-of-cons-eq, tail-eq-of-cons-eq}
 use native.Mathlib.Omega.{arith}
 use lib.ListN.{length, drop, length-append}
+use Rattle.machine.specs.Limits.{mostInputs}
 use Rattle.condition.specs.Grammar.{Level, Join, or, and, factor, joined, part, byte, joins, condition, Tree, one, more, bang, paren, off, on, input, text, opened, Below, holds}
-use Rattle.condition.specs.Parts.{At, Ends, NotFirst, Reading, Skipped, flipped}
+use Rattle.condition.specs.inner.Parts.{At, Ends, Reading, Skipped, flipped}
+use Rattle.condition.proofs.Lists.{at-front}
 use Rattle.condition.proofs.Texts.{some}
 use Rattle.condition.proofs.Trees.{same, ends-part, ends-join, join-ends}
 
@@ -54,7 +56,7 @@ module _ {s : List ℕ} {at : ℕ} where
       record {
         bangs = b ++ code "!" ∷ [];
         count = simp length-append (omega (arith, k .count));
-        spelt = k .spelt ∙ ap (b ++_) (here .front) ∙ sym (snoc (drop (end + 1) s));
+        spelt = k .spelt ∙ ap (b ++_) (at-front here) ∙ sym (snoc (drop (end + 1) s));
         wrap = λ n v d u r x.
             let y = k .wrap n v d (code "!" ∷ u) r (banged x) in
             (of-same (snoc u) refl (y .0), y .1 ∙ flipped-not negates (holds v (x .tree)));
@@ -85,19 +87,16 @@ unclose (input k) r h e o b = absurd (omega (arith, head-eq-of-cons-eq e))
 pub inside : {n d d′ : ℕ} {w w′ r : List ℕ} → d ≤ suc d′ → w ≡ code "(" ∷ w′ → Reading factor n d w r → (1 ≤ d) × Reading condition n d′ w′ (code ")" ∷ r)
 inside {r = r} h e x = unclose (x .tree) r h (sym e ∙ x .spelt) (x .nested) (x .known)
 
--- a factor that begins with neither `!` nor `(` is one character: `0`, `1` or an input letter below n
-module _ {n c : ℕ} {w : List ℕ} (bare : NotFirst (code "!") (c ∷ w)) (open-not : NotFirst (code "(") (c ∷ w)) (off-not : c ≡ code "0" → ⊥)
-    (on-not : c ≡ code "1" → ⊥) (letter-not : (k : ℕ) → k < n → c ≡ code "a" + k → ⊥) where
-  no-tree : (t : Tree factor) (r : List ℕ) → c ∷ w ≡ text t ++ r → Below n t → ⊥
+-- a factor that begins with neither `!` nor `(` is one character: `0`, `1`, or an input letter below n and one of a to h
+module _ {n c : ℕ} {w : List ℕ} (bang-not : c ≡ code "!" → ⊥) (open-not : c ≡ code "(" → ⊥) (off-not : c ≡ code "0" → ⊥)
+    (on-not : c ≡ code "1" → ⊥) (letter-not : (k : ℕ) → (k < n) × (k < mostInputs) → c ≡ code "a" + k → ⊥) where
+  pub no-single : (t : Tree factor) (r : List ℕ) → c ∷ w ≡ text t ++ r → Below n t → ⊥
   unfolding text Below
-  no-tree (bang t) r e b = bare (text t ++ r) e
-  no-tree (paren t) r e b = open-not _ e
-  no-tree off r e b = off-not (head-eq-of-cons-eq e)
-  no-tree on r e b = on-not (head-eq-of-cons-eq e)
-  no-tree (input k) r e b = letter-not k b (head-eq-of-cons-eq e)
-
-  pub no-single : {d : ℕ} {r : List ℕ} → Reading factor n d (c ∷ w) r → ⊥
-  no-single {r = r} x = no-tree (x .tree) r (x .spelt) (x .known)
+  no-single (bang t) r e b = bang-not (head-eq-of-cons-eq e)
+  no-single (paren t) r e b = open-not (head-eq-of-cons-eq e)
+  no-single off r e b = off-not (head-eq-of-cons-eq e)
+  no-single on r e b = on-not (head-eq-of-cons-eq e)
+  no-single (input k) r e b = letter-not k b (head-eq-of-cons-eq e)
 
 -- joins: one part alone, and a part with what follows its join
 unfoldable pub alone : {j : Join} {n d : ℕ} {w r : List ℕ} → Reading (part j) n d w r → Reading (joined j) n d w r

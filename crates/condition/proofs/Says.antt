@@ -6,7 +6,7 @@ use mathlib.Core.Bool.{Bool}
 use mathlib.Core.List.{List}
 use native.Mathlib.Omega.{arith}
 use Rattle.condition.specs.Grammar.{condition, Tree, holds}
-use Rattle.condition.specs.Condition.{Reads, numberOf, Says}
+use Rattle.condition.specs.Condition.{Reads, Says}
 use Rattle.condition.specs.declared.Meaning.{Meaning}
 use Rattle.condition.specs.declared.Meaning.the-variants.{Is, Unread}
 use Rattle.condition.proofs.Trees.{one-tree}
@@ -35,10 +35,3 @@ only n v w (Is b) (Is b′) s s′ =
 only n v w (Is b) Unread s s′ = absurd (says-unread s′ (says-reads s))
 only n v w Unread (Is b) s s′ = absurd (says-unread s (says-reads s′))
 only n v w Unread Unread s s′ = refl
-
--- whether a text reads does not depend on the setting
-pub any-setting : (n v v′ : ℕ) (w : List ℕ) (m m′ : Meaning) → Says n v w m → Says n v′ w m′ → numberOf m ≡ numberOf m′
-any-setting n v v′ w (Is b) (Is b′) s s′ = refl
-any-setting n v v′ w (Is b) Unread s s′ = absurd (says-unread s′ (says-reads s))
-any-setting n v v′ w Unread (Is b) s s′ = absurd (says-unread s (says-reads s′))
-any-setting n v v′ w Unread Unread s s′ = refl

@@ -8,7 +8,7 @@ use native.Mathlib.Omega.{arith}
 use lib.ListN.{length, drop, length-drop, drop-of-length-le}
 use Rattle.condition.specs.Grammar.{condition, text}
 use Rattle.condition.specs.Condition.{parentheses, Reads, Says}
-use Rattle.condition.specs.Parts.{Reading, FoundTo, FailedAt}
+use Rattle.condition.specs.inner.Parts.{Reading, FoundTo, FailedAt}
 use Rattle.condition.specs.declared.Meaning.the-variants.{Is, Unread}
 use Rattle.condition.proofs.Trees.{same, nothing-ends}
 use Rattle.condition.proofs.Says.{value-says, unread-says}

@@ -1,15 +1,11 @@
 -- Document 01, "Conditions": the trees of the grammar, their texts, and what they say. Assumes nothing: these are definitions.
-use Prim.Native.Nat.{ℕ, suc, max, _+_, _/_, _%_, _^_, _<_}
+use Prim.Native.Nat.{ℕ, suc, max, _+_, _<_}
 use Prim.Native.Char.{code}
-use Prim.Native.String.{String, [] as none, _∷_ as _then_}
 use mathlib.Core.List.{List, [], _∷_, _++_}
 use mathlib.Core.Bool.{Bool, true, false, not, _&&_, _||_}
 use lib.Dec.{eqb}
-
--- the bytes of a text of ASCII characters
-abbrev pub bytes : String → List ℕ
-bytes none = []
-bytes (c then s) = code c ∷ bytes s
+use Rattle.machine.specs.Limits.{mostInputs}
+use Rattle.machine.specs.Couples.{input as inputOf}
 
 -- what joins parts: or, and
 pub data Join : Type 0 where
@@ -65,7 +61,7 @@ opened off = 0
 opened on = 0
 opened (input k) = 0
 
--- each input letter is below n
+-- each input letter is below n, and one of a to h
 unfoldable pub Below : {l : Level} → ℕ → Tree l → Type 0
 Below n (one t) = Below n t
 Below n (more t u) = Below n t × Below n u
@@ -73,18 +69,14 @@ Below n (bang t) = Below n t
 Below n (paren t) = Below n t
 Below n off = Unit
 Below n on = Unit
-Below n (input k) = k < n
-
--- input k is on in the setting v: input a weighs 1, b 2, and so on
-abbrev pub inputOn : ℕ → ℕ → Bool
-inputOn v k = eqb (v / 2 ^ k % 2) 1
+Below n (input k) = (k < n) × (k < mostInputs)
 
 -- what a join says of what its two sides say
 abbrev pub joins : Join → Bool → Bool → Bool
 joins or a b = a || b
 joins and a b = a && b
 
--- what a tree says at the setting v
+-- what a tree says at the setting v; an input letter says that its input is on
 unfoldable pub holds : {l : Level} → ℕ → Tree l → Bool
 holds v (one t) = holds v t
 holds v (more {j} t u) = joins j (holds v t) (holds v u)
@@ -92,4 +84,4 @@ holds v (bang t) = not (holds v t)
 holds v (paren t) = holds v t
 holds v off = false
 holds v on = true
-holds v (input k) = inputOn v k
+holds v (input k) = eqb (inputOf v k) 1

@@ -2,12 +2,13 @@
 //
 // One function for each level of the grammar. Each reads the part that begins at `at`, where `opened` parentheses are open, and
 // loops over what its level joins; the levels come round again only inside a parenthesis.
-ghost use mathlib.Core.Path.{_≡_};
 ghost use Prim.Native.Nat.{ℕ, _-_};
-ghost use lib.ListN.{drop};
-ghost use Rattle.condition.specs.Grammar.{condition as conditionLevel, term as termLevel, factor as factorLevel, inputOn};
+ghost use Rattle.verdict.specs.Checks.{Decides};
+ghost use Rattle.condition.specs.Grammar.{condition as conditionLevel, term as termLevel, factor as factorLevel};
 ghost use Rattle.condition.specs.Condition.{parentheses, Says};
-ghost use Rattle.condition.specs.Parts.{code, At, Stands, NotFirst, Skipped, Found};
+ghost use Rattle.condition.specs.inner.Parts.{code, At, Skipped, Found};
+use basics::wide;
+use machine::INPUTS;
 
 // The most parentheses open at any place.
 pub const PARENTHESES: usize = 8;
@@ -108,7 +109,7 @@ fn factor(text: &[u8], at: usize, inputs: usize, setting: usize, opened: usize) 
 // The `!` that stand from `at` on.
 fn bangs(text: &[u8], at: usize) -> Negation
     ensures skipped { λ r. ⌜ Skipped (now (text .entry)) at (r .negates) (r .end) ⌝ }
-    ensures bare { λ r. ⌜ NotFirst (code "!") (drop (r .end) (now (text .entry))) ⌝ }
+    ensures bare { λ r. ⌜ (At (now (text .entry)) (r .end) (code "!") → ⊥) ⌝ }
 {
     let mut negates = false;
     let mut end = at;
@@ -121,7 +122,7 @@ fn bangs(text: &[u8], at: usize) -> Negation
 
 // A factor that begins with no `!`.
 fn bare(text: &[u8], at: usize, inputs: usize, setting: usize, opened: usize) -> Part
-    requires { ⌜ NotFirst (code "!") (drop at (now text)) ⌝ }
+    requires { ⌜ (At (now text) at (code "!") → ⊥) ⌝ }
     ensures { λ r. ⌜ Found factorLevel inputs setting (parentheses - opened) (now (text .entry)) at r ⌝ }
 {
     if stands(text, at, b'(') {
@@ -150,9 +151,9 @@ fn enclosed(text: &[u8], at: usize, inputs: usize, setting: usize, opened: usize
     }
 }
 
-// `0`, `1`, or an input letter.
+// `0`, `1`, or an input letter; input a weighs 1, b 2, and so on.
 fn single(text: &[u8], at: usize, inputs: usize, setting: usize) -> Part
-    requires { ⌜ NotFirst (code "!") (drop at (now text)) × NotFirst (code "(") (drop at (now text)) ⌝ }
+    requires { ⌜ (At (now text) at (code "!") → ⊥) × (At (now text) at (code "(") → ⊥) ⌝ }
     ensures { λ r. ⌜ ((d : ℕ) → Found factorLevel inputs setting d (now (text .entry)) at r) ⌝ }
 {
     if text.len() <= at {
@@ -168,26 +169,19 @@ fn single(text: &[u8], at: usize, inputs: usize, setting: usize) -> Part
     if c < b'a' {
         return Part::Bad(at);
     }
-    let input = (c - b'a') as usize;
+    let input = wide(c - b'a');
     if inputs <= input {
         return Part::Bad(at);
     }
-    Part::Value(input_on(setting, input), at + 1)
-}
-
-// Whether the input is on in the setting: input a weighs 1, b 2, and so on. A setting has 64 bits.
-fn input_on(setting: usize, input: usize) -> bool
-    ensures { λ r. ⌜ r ≡ inputOn setting input ⌝ }
-{
-    if 64 <= input {
-        return false;
+    if INPUTS <= input {
+        return Part::Bad(at);
     }
-    (setting >> input) % 2 == 1
+    Part::Value((setting >> input) % 2 == 1, at + 1)
 }
 
 // Whether the character c stands at `at`.
 fn stands(text: &[u8], at: usize, c: u8) -> bool
-    ensures { λ r. ⌜ Stands (now (text .entry)) at c r ⌝ }
+    ensures { λ r. ⌜ Decides (At (now (text .entry)) at c) r ⌝ }
 {
     if text.len() <= at {
         return false;

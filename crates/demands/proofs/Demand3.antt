@@ -1,55 +1,69 @@
 -- Demand 3: where marking and the plan answer 0, what they leave is right. The ranks are those of the promise; the plan's bytes split
--- back into the plan, whose runs visit what is marked and tell boards apart.
-use mathlib.Core.Path.{_≡_, sym, ap, subst, _∙_}
-use mathlib.Core.Logic.{⊎-elim, inl}
+-- back into the plan, whose runs visit what is marked and tell boards apart; the sheets of expected readings are the specification's.
+use mathlib.Core.Path.{_≡_, refl, sym, ap, subst, _∙_}
+use mathlib.Core.Logic.{_⊎_, ⊎-elim}
 use mathlib.Core.List.{List}
-use Prim.Native.Nat.{ℕ, _<_}
+use Prim.Native.Nat.{ℕ, _≤_, _<_}
 use native.Mathlib.Omega.{arith}
-use lib.ListN.{getD, take}
+use lib.ListN.{getD, take, drop, length}
+use lib.Seq.{take-at}
+use Rattle.verdict.specs.Buffers.{Left}
 use Rattle.verdict.specs.declared.Answer.{Answer}
-use Rattle.machine.specs.Runs.{Machine, machine, couples, Rank, RankOrUnmarked}
+use Rattle.verdict.proofs.Order.{judged-done}
+use Rattle.machine.specs.Limits.{unmarked}
+use Rattle.machine.specs.Runs.{Machine, couples, Rank, RankOrUnmarked}
 use Rattle.machine.specs.Plans.{Plan, stored, runsIn}
+use Rattle.machine.specs.Boards.{readings, specified}
 use Rattle.machine.proofs.Exists.{marked-below}
 use Rattle.machine.proofs.Plans.{plan-runs, plan-visits, plan-marked, plan-theorem}
+use Rattle.machine.proofs.Readings.{length-readings}
 use Rattle.machine.proofs.Stored.{split-stored, stored-once}
-use Rattle.marking.specs.Marking.{MarkedAs}
 use Rattle.plan.specs.Planning.{PlannedAs}
-use Rattle.plan.proofs.Held.{held-sound, plan-held}
-use Rattle.demands.specs.Demand3.{RankStored, RightRanks, RightPlan, TellsBoards}
+use Rattle.plan.proofs.Held.{held-checked, plan-held}
+use Rattle.demands.specs.Demand3.{RankStored, RightRanks, RightPlan, TellsBoards, Expected, TellsBySheets}
 
-module _ (inputs states initial : ℕ) (T : List ℕ) where
-  abbrev m : Machine
-  m = machine inputs states initial T
-
-  -- marking answered 0
-  pub ranks-right : {ranks₀ ranks₁ : List ℕ} {a : Answer} → MarkedAs m ranks₀ a ranks₁ → a .number ≡ 0 → RightRanks m ranks₁
-  ranks-right {ranks₁ = R} p e = record {
+module _ {m : Machine} where
+  -- marking, or the plan, answered 0, or the plan 16
+  pub ranks-right : {number : ℕ} {ranks₀ ranks₁ : List ℕ} → Left number (couples m) unmarked (RankOrUnmarked m) ranks₀ ranks₁ → (number ≡ 0) ⊎ (14 ≤ number) → RightRanks m ranks₁
+  ranks-right {ranks₁ = R} left e = record {
     stored-if = λ c h. (λ f. let r = ranked c h f in (r .some, r .visitor), λ x g. ⊎-elim (λ r. omega (arith, r .0)) (λ r. r .1 x) (cell c h));
     fewest = ranked;
   }
     where
       cell : (c : ℕ) → c < couples m → RankOrUnmarked m c (getD R c 0)
-      cell = p .ranks .filled (inl e) .needed
+      cell = left .filled e .needed
 
       ranked : (c : ℕ) → c < couples m → RankStored R c → Rank m c (getD R c 0)
       ranked c h f = ⊎-elim (λ r. r .1) (λ r. absurd (f (r .0))) (cell c h)
 
+  sheet-is : {words run sheet : List ℕ} → Expected m words run sheet → sheet ≡ readings (specified m (λ s. getD words s 0)) run
+  sheet-is {words} {run} t =
+      let p = t .promise in
+      let d = judged-done 17 (p .verdict) refl (t .success) in
+      let (w, x, f) = p .readings .done (t .success) in
+      let n : length w ≡ t .answer .place = ap length x ∙ length-readings (specified m (λ s. getD words s 0)) run ∙ sym (d .place) in
+      t .is ∙ ap (take (t .answer .place)) (f .is) ∙ take-at w (drop (length w) (t .before)) (t .answer .place) n ∙ x
+
   -- the plan answered 0, with the bytes that it wrote as its place
   module _ {ranks₀ plan₀ ranks₁ plan₁ : List ℕ} {a : Answer} (p : PlannedAs m ranks₀ plan₀ a ranks₁ plan₁) (e : a .number ≡ 0) where
     held : Plan m (couples m) (runsIn (take (a .place) plan₁))
-    held = let (runs, x, f) = plan-held inputs states initial T p e in subst (Plan m (couples m)) (sym (ap runsIn f ∙ split-stored runs)) x
+    held = let (runs, x, f) = plan-held p e in subst (Plan m (couples m)) (sym (ap runsIn f ∙ split-stored runs)) x
 
     pub plan-right : RightPlan m (take (a .place) plan₁)
     plan-right =
-        let (runs, x, f) = plan-held inputs states initial T p e in
+        let (runs, x, f) = plan-held p e in
         let same : runsIn (take (a .place) plan₁) ≡ runs = ap runsIn f ∙ split-stored runs in
-        let ok = held-sound inputs states initial T p e in
         record {
           runs = plan-runs held;
-          visits = λ c. (plan-marked held c, λ y. plan-visits held c (marked-below ok y) y);
+          visits = λ c. (plan-marked held c, λ y. plan-visits held c (marked-below (held-checked p e .sound) y) y);
           splits = ap stored same ∙ sym f;
           one-way = λ plan g. stored-once plan runs (g ∙ f) ∙ sym same;
         }
 
     pub boards-told : TellsBoards m (take (a .place) plan₁)
-    boards-told word differ b like = plan-theorem (held-sound inputs states initial T p e) differ like held
+    boards-told word differ b like = plan-theorem (held-checked p e .sound) differ like held
+
+    pub sheets-tell : TellsBySheets m (take (a .place) plan₁)
+    sheets-tell words differ b like sheet told =
+        let t = boards-told (λ s. getD words s 0) differ b like in
+        (λ h. t .0 (λ vs i. h vs i ∙ sheet-is (told vs i)), λ g vs i. t .1 g vs i ∙ sym (sheet-is (told vs i)))

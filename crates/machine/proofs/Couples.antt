@@ -1,14 +1,14 @@
 -- Couple numbers s * m + v with v < m, over the number m of settings: each is that of one couple, by quotient and remainder.
-use mathlib.Core.Path.{_≡_, refl, sym, ap, subst, _∙_}
+use mathlib.Core.Path.{_≡_, sym, ap, subst, _∙_}
 use Prim.Native.Nat.{ℕ, zero, suc, _+_, _*_, _/_, _%_, _^_, _≤_, _<_}
-use native.Mathlib.Nat.{suc-mul, mul-le-mul, mul-le-mul-right, mul-zero, not-suc-le-zero, mod-lt, div-add-mod', div-lt-iff-lt-mul}
+use native.Mathlib.Nat.{suc-mul, mul-le-mul, mul-zero, not-suc-le-zero, mod-lt, div-add-mod', div-lt-iff-lt-mul}
 use native.Mathlib.Numerals.{add-one}
 use native.Mathlib.Omega.{arith}
 use lib.Arith.{digits-div, digits-mod, digits-lt}
 use lib.Pow.{pow-mono}
 use Rattle.machine.specs.Limits.{mostInputs, mostStates, mostSettings, mostCouples}
 use Rattle.machine.specs.Couples.{coupleAt, Couple}
-use Rattle.machine.specs.Runs.{Machine, size, couples, couple, move, Sound}
+use Rattle.machine.specs.Runs.{Machine, size, couple, move, Sound}
 
 module _ (m : ℕ) where
   -- the couples of s are followed by those of s + 1
@@ -34,10 +34,6 @@ couple-below {states} {m} {s} {v} {p} c = subst (λ p. p < states * m) (sym (c .
 pub couple-of : {states m : ℕ} (p : ℕ) → 0 < m → p < states * m → Couple states m (p / m) (p % m) p
 couple-of {states} {m} p z h =
     record { state = div-lt-iff-lt-mul z .1 h; setting = mod-lt p z; number = sym (div-add-mod' p m) }
-
--- couples of a smaller state come first
-pub couple-order : (m s s′ : ℕ) {v : ℕ} (v′ : ℕ) → s < s′ → v < m → coupleAt m s v < coupleAt m s′ v′
-couple-order m s s′ {v} v′ h k = omega (arith, mul-le-mul-right m h, suc-mul s m)
 
 -- where there is a couple there is a setting
 pub some-setting : (states settings p : ℕ) → p < states * settings → 0 < settings

@@ -1,20 +1,20 @@
 -- Every marked couple has a rank and a run to it: whether a run with exactly k changes visits it is decided by recursion on k, and the
 -- least such k is searched for.
-use mathlib.Core.Path.{_≡_, refl, sym, ap, ap₂, subst, subst₂, _∙_}
+use mathlib.Core.Path.{_≡_, refl, sym, ap, subst, _∙_}
 use mathlib.Core.Logic.{_⊎_, ⊎-elim, inl, inr}
 use mathlib.Core.List.{List, [], _∷_}
-use mathlib.Core.Bool.{Bool, true, false}
-use Prim.Native.Nat.{ℕ, zero, suc, _+_, _*_, _/_, _%_, _^_, _≤_, _<_}
-use native.Mathlib.Nat.{div-add-mod', div-lt-iff-lt-mul, le-refl, mod-lt}
+use Prim.Native.Nat.{ℕ, zero, suc, _/_, _%_, _<_}
+use native.Mathlib.Nat.{div-lt-iff-lt-mul, le-refl}
 use native.Mathlib.Omega.{arith}
 use lib.ListN.{length}
-use lib.Pow.{pow-pos, high, low}
+use lib.Pow.{pow-pos, high}
 use lib.Arith.{digits-lt}
-use Rattle.machine.specs.Runs.{Machine, size, couples, couple, move, Sound, Starts, Changes, Visitor, Marked, Rank}
+use Rattle.machine.specs.Runs.{Machine, size, couples, couple, Sound, Starts, Marked, Rank}
 use Rattle.machine.specs.Shortest.{RunTo, Steps, Parent}
 use Rattle.machine.proofs.Order.{below-or, equal-or}
 use Rattle.machine.proofs.Couples.{couple-setting, moves}
-use Rattle.machine.proofs.Tests.{told-or, told-starts, told-steps}
+use Rattle.verdict.proofs.Tests.{decides-or}
+use Rattle.machine.proofs.Tests.{decides-starts, decides-steps}
 use Rattle.machine.proofs.Trails.{Trail, along, trail-run}
 use Rattle.machine.proofs.Shortest.{some-trail, trail-rank, rank-trail, before-rank, Best, best-start, best-step, best-run}
 
@@ -69,7 +69,7 @@ module _ {m : Machine} (ok : Sound m) where
   hit-or zero c = by
       (λ x. ([], (c % size m, x .0, x .1), refl))
       (λ x. at-start (x .0) (x .1) (x .2))
-      (both (told-or (told-starts m (c % size m))) (equal-or c (couple m (m .initial) (c % size m))))
+      (both (decides-or (decides-starts m (c % size m))) (equal-or c (couple m (m .initial) (c % size m))))
     where
       at-start : (ps : List ℕ) → Trail m c ps → length ps ≡ 0 → Starts m (c % size m) × (c ≡ couple m (m .initial) (c % size m))
       at-start [] t e =
@@ -79,7 +79,7 @@ module _ {m : Machine} (ok : Sound m) where
   hit-or (suc k) c = ⊎-elim
       (λ f. let (ps, t, e) = f .found .0 in inl (f .place ∷ ps, (t, f .found .1), omega arith))
       (λ none. inr (λ x. by-step none (x .0) (x .1) (x .2)))
-      (search-below (λ p. Hit k p × Steps m p c) (λ p. both (hit-or k p) (told-or (told-steps m p c))) (couples m))
+      (search-below (λ p. Hit k p × Steps m p c) (λ p. both (hit-or k p) (decides-or (decides-steps m p c))) (couples m))
     where
       by-step : ((p : ℕ) → p < couples m → Hit k p × Steps m p c → ⊥) → (ps : List ℕ) → Trail m c ps → length ps ≡ suc k → ⊥
       by-step none [] t e = omega arith
@@ -109,7 +109,7 @@ module _ {m : Machine} (ok : Sound m) where
         },
       ))
       (λ none. absurd (never none ps t (omega (arith, rank-trail ok x ps t, x .changes))))
-      (search-below (λ p. Hit r p × Steps m p c) (λ p. both (hit-or r p) (told-or (told-steps m p c))) (couples m))
+      (search-below (λ p. Hit r p × Steps m p c) (λ p. both (hit-or r p) (decides-or (decides-steps m p c))) (couples m))
     where
       hit : {q : ℕ} → Rank m q r → Hit r q
       hit {q} z = let (ps, t, l) = some-trail ok q (z .some) (z .visitor) in (ps, t, omega (arith, rank-trail ok z ps t, z .changes))

@@ -1,34 +1,38 @@
--- The changes from a resting couple are the flips of one input: a setting that differs in one input is one flipped, and back.
-use mathlib.Core.Path.{_≡_, refl, sym, ap, subst, subst₂, _∙_}
-use mathlib.Core.Logic.{_⊎_, _↔_, ⊎-elim, inl, inr}
+-- The changes from a resting couple are the flips of one input that a run may make: a setting that differs in one input is one flipped,
+-- and back.
+use mathlib.Core.Path.{_≡_, sym, ap, subst₂, _∙_}
+use mathlib.Core.Logic.{_⊎_}
 use mathlib.Core.List.{List}
-use mathlib.Core.Bool.{Bool, true, false}
-use Prim.Native.Nat.{ℕ, zero, suc, _+_, _*_, _/_, _%_, _^_, _≤_, _<_}
+use mathlib.Core.Bool.{true}
+use Prim.Native.Nat.{ℕ, _/_, _%_, _^_, _<_}
 use native.Mathlib.Nat.{mod-lt}
-use native.Mathlib.Omega.{arith}
-use lib.Dec.{eqb}
 use lib.Pow.{pow-pos, high, low}
 use borrow.Author.Tests.{eqb-true, eq-eqb}
-use Rattle.machine.specs.Lists.{pick}
-use Rattle.machine.specs.Flips.{flipped}
-use Rattle.machine.specs.Runs.{Machine, machine, size, couple, move, Changes}
+use Rattle.machine.specs.inner.Flips.{flipped}
+use Rattle.machine.specs.Runs.{Machine, machineOf, size, couple, move}
 use Rattle.machine.specs.Couples.{differing}
 use Rattle.machine.specs.Shortest.{Steps}
-use Rattle.machine.proofs.Tests.{unlike, whole}
+use Rattle.machine.specs.declared.Frame.{Frame}
+use Rattle.machine.proofs.Tests.{whole}
 use Rattle.machine.proofs.Inputs.{flip-differs, flip-small, differs-flip}
+
+-- a run may make exactly the changes of one input
+pub record Single (m : Machine) : Type 0 where
+  pub one : (v w : ℕ) → m .mayChange v w ≡ true → differing (m .inputs) v w ≡ 1
+  pub any : (v w : ℕ) → differing (m .inputs) v w ≡ 1 → m .mayChange v w ≡ true
+
+pub single : (f : Frame) (T : List ℕ) → Single (machineOf f T)
+single f T = record { one = λ v w e. eqb-true _ _ e; any = λ v w e. eq-eqb _ _ e }
 
 -- by a change of input i of setting v in state s, couple c is visited
 abbrev pub ByFlip : Machine → ℕ → ℕ → ℕ → ℕ → Type 0
 ByFlip m s v c i = (c ≡ couple m s (flipped v (2 ^ i))) ⊎ (c ≡ couple m (move m s (flipped v (2 ^ i))) (flipped v (2 ^ i)))
 
-module _ (n states initial : ℕ) (T : List ℕ) where
-  abbrev m : Machine
-  m = machine n states initial T
-
-  pub flip-steps : (p c i : ℕ) → move m (p / size m) (p % size m) ≡ p / size m → i < n → ByFlip m (p / size m) (p % size m) c i → Steps m p c
+module _ {m : Machine} (ones : Single m) where
+  pub flip-steps : (p c i : ℕ) → move m (p / size m) (p % size m) ≡ p / size m → i < m .inputs → ByFlip m (p / size m) (p % size m) c i → Steps m p c
   flip-steps p c i r l x =
       let v = p % size m in
-      let h : v < 2 ^ n = mod-lt p (pow-pos n) in
+      let h : v < size m = mod-lt p (pow-pos (m .inputs)) in
       record {
         state = p / size m;
         from = v;
@@ -36,14 +40,14 @@ module _ (n states initial : ℕ) (T : List ℕ) where
         below = h;
         here = whole m p;
         rests = r;
-        change = record { below = flip-small n v i l h; allowed = eq-eqb (differing n v (flipped v (2 ^ i))) 1 (flip-differs n v i l) };
+        change = record { below = flip-small (m .inputs) v i l h; allowed = ones .any _ _ (flip-differs (m .inputs) v i l) };
         visits = x;
       }
 
-  pub steps-flip : (p c : ℕ) → Steps m p c → (i : ℕ) × (i < n) × ByFlip m (p / size m) (p % size m) c i
+  pub steps-flip : (p c : ℕ) → Steps m p c → (i : ℕ) × (i < m .inputs) × ByFlip m (p / size m) (p % size m) c i
   steps-flip p c x =
-      let (i, l, e) = differs-flip n (x .from) (x .to) (x .below) (x .change .below) (eqb-true _ _ (x .change .allowed)) in
-      let f : x .state ≡ p / size m = sym (ap (λ (y : ℕ). y / size m) (x .here) ∙ high (x .state) n (x .below)) in
-      let g : x .from ≡ p % size m = sym (ap (λ (y : ℕ). y % size m) (x .here) ∙ low (x .state) n (x .below)) in
+      let (i, l, e) = differs-flip (m .inputs) (x .from) (x .to) (x .below) (x .change .below) (ones .one _ _ (x .change .allowed)) in
+      let f : x .state ≡ p / size m = sym (ap (λ (y : ℕ). y / size m) (x .here) ∙ high (x .state) (m .inputs) (x .below)) in
+      let g : x .from ≡ p % size m = sym (ap (λ (y : ℕ). y % size m) (x .here) ∙ low (x .state) (m .inputs) (x .below)) in
       let y : ByFlip m (x .state) (x .from) c i = rw (← e) (x .visits) in
       (i, l, subst₂ (λ (s v : ℕ). ByFlip m s v c i) f g y)

@@ -10,9 +10,9 @@ use lib.Dec.{eqb}
 use lib.Pow.{pow-pos, high, low, field, mod-mod-pow, shr-shr, mod-pow-add}
 use borrow.Author.Tests.{eq-eqb, ne-eqb}
 use Rattle.machine.specs.Couples.{input, differing}
-use Rattle.machine.specs.Flips.{flipped}
-use Rattle.machine.specs.Lists.{pick}
+use Rattle.machine.specs.inner.Flips.{flipped}
 use Rattle.machine.proofs.Order.{below-or, equal-or}
+use mathlib.Core.Bool.{cond}
 
 -- input i of the low part is the whole's
 low-input : (v n i : ℕ) → i < n → input (v % 2 ^ n) i ≡ input v i
@@ -28,7 +28,7 @@ same-inputs (suc n) v w all =
     rw (step v, step w) (ap₂ (λ (a b : ℕ). a * 2 ^ n + b) (all n (omega arith)) (same-inputs n v w (λ j l. all j (omega arith))))
 
 toggled : ℕ → ℕ
-toggled q = pick (eqb (q % 2) 0) (q + 1) (q - 1)
+toggled q = cond (eqb (q % 2) 0) (q + 1) (q - 1)
 
 toggled-half : (q : ℕ) → toggled q / 2 ≡ q / 2
 unfolding toggled

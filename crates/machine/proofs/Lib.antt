@@ -13,7 +13,6 @@ pub mod Plans
 pub mod Stored
 pub mod Small
 pub mod Rounds
-pub mod Giving
 pub mod Flips
 pub mod Faults
-pub mod Marking
+pub mod Certificate

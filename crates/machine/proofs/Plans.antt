@@ -1,26 +1,26 @@
 -- The plan is one plan, visits every marked couple and no other, and is what the computation gives: by induction on the couples gone
 -- through.
-use mathlib.Core.Path.{_≡_, refl, sym, ap, ap₂, subst, subst₂, _∙_}
+use mathlib.Core.Path.{_≡_, refl, sym, ap₂, subst}
 use mathlib.Core.Logic.{_⊎_, _↔_, ⊎-elim, inl, inr}
 use mathlib.Core.List.{List, [], _∷_, _++_}
-use mathlib.Core.Bool.{Bool, true, false, not}
-use Prim.Native.Nat.{ℕ, zero, suc, _+_, _*_, _/_, _%_, _^_, _≤_, _<_}
+use mathlib.Core.Bool.{Bool, true, false}
+use Prim.Native.Nat.{ℕ, zero, suc, _+_, _<_}
 use native.Mathlib.Nat.{le-refl}
 use native.Mathlib.Omega.{arith}
-use lib.ListN.{length, getD}
-use lib.Dec.{eqb}
-use borrow.Author.Tests.{eq-eqb, ne-eqb}
+use lib.ListN.{getD}
+use borrow.Author.Tests.{ne-eqb}
 use Rattle.machine.specs.Limits.{unmarked}
-use Rattle.machine.specs.Lists.{In, pick}
-use Rattle.machine.specs.Runs.{Machine, size, couples, couple, move, Sound, Run, visits, Visitor, Marked, Rank, RankOrUnmarked}
-use Rattle.machine.specs.Shortest.{RunTo, Parent}
-use Rattle.machine.specs.Model.{followed, among, visited, planned, planOf, Listed}
+use Rattle.machine.specs.Lists.{In}
+use Rattle.machine.specs.Runs.{Machine, size, couples, couple, move, Sound, Run, visits, Marked}
+use Rattle.machine.specs.Shortest.{RunTo}
+use Rattle.machine.specs.inner.Model.{among, visited, planned, planOf, Listed}
 use Rattle.machine.specs.Boards.{Board, readings, specified, Differ, Alike}
 use Rattle.machine.specs.Plans.{VisitedBy, Plan}
 use Rattle.machine.specs.Plans.Plan.{empty, pass, add}
 use Rattle.machine.proofs.Members.{in-front, in-back, in-either}
 use Rattle.machine.proofs.Order.{equal-or}
-use Rattle.machine.proofs.Tests.{Told, told-by, told-equal, told-either}
+use Rattle.verdict.specs.Checks.{Decides}
+use Rattle.verdict.proofs.Tests.{it-fails, decides-map, decides-equal, decides-either, decides-cases}
 use Rattle.machine.proofs.Shortest.{run-to-unique, followed-run}
 use Rattle.machine.proofs.Exists.{marked-below}
 use Rattle.machine.proofs.Readings.{board-theorem}
@@ -59,15 +59,15 @@ plan-visits {m} (add {c = d} {plan = plan} {vs = vs} y n r) c l x = ⊎-elim
 pub plan-marked : {m : Machine} {t : ℕ} {p : List (List ℕ)} → Plan m t p → (c : ℕ) → VisitedBy m c p → Marked m c
 plan-marked x c (vs, i, j) = (vs, record { run = plan-runs x vs i; sees = j })
 
-among-or : (c : ℕ) (ds : List ℕ) → Told (among c ds) (In c ds)
+among-or : (c : ℕ) (ds : List ℕ) → Decides (In c ds) (among c ds)
 unfolding among
-among-or c [] = inr (refl, λ i. i)
-among-or c (d ∷ ds) = told-either (told-equal c d) (among-or c ds)
+among-or c [] = it-fails (λ i. i)
+among-or c (d ∷ ds) = decides-either (decides-equal c d) (among-or c ds)
 
-visited-or : (m : Machine) (c : ℕ) (plan : List (List ℕ)) → Told (visited m c plan) (VisitedBy m c plan)
+visited-or : (m : Machine) (c : ℕ) (plan : List (List ℕ)) → Decides (VisitedBy m c plan) (visited m c plan)
 unfolding visited
-visited-or m c [] = inr (refl, λ x. x .1)
-visited-or m c (vs ∷ plan) = told-by to of (told-either (among-or c (visits m vs)) (visited-or m c plan))
+visited-or m c [] = it-fails (λ x. x .1)
+visited-or m c (vs ∷ plan) = decides-map to of (decides-either (among-or c (visits m vs)) (visited-or m c plan))
   where
     to : In c (visits m vs) ⊎ VisitedBy m c plan → VisitedBy m c (vs ∷ plan)
     to (inl i) = (vs, inl refl, i)
@@ -86,7 +86,7 @@ module _ {m : Machine} (marked : ℕ → Bool) (runTo : ℕ → List ℕ) where
       (λ e. rw (e .0) (⊎-elim
       (λ f. rw (f .0) (pass x (λ y. f .1)))
       (λ f. rw (f .0) (add x (f .1) (e .1)))
-      (visited-or m t (planned m marked runTo t))))
+      (decides-cases (visited-or m t (planned m marked runTo t)))))
       (λ e. rw (e .0) (pass x (λ y. absurd (e .1 y))))
       (all t (le-refl _))
 

@@ -1,13 +1,13 @@
 -- The board theorem: matching readings on every run of a plan that visits all marked couples, and equal moves at these. Both boards are
 -- followed along a run; words that differ tell the states apart.
-use mathlib.Core.Path.{_≡_, refl, sym, ap, ap₂, subst, _∙_}
+use mathlib.Core.Path.{_≡_, refl, sym, ap, subst, _∙_}
 use mathlib.Core.Logic.{_⊎_, _↔_, ⊎-elim, inl, inr}
 use mathlib.Core.List.{List, [], _∷_}
-use Prim.Native.Nat.{ℕ, zero, suc, _+_, _*_, _-_, _^_, _≤_, _<_}
+use Prim.Native.Nat.{ℕ, _*_, _-_, _<_}
 use native.Mathlib.Omega.{arith}
 use lib.ListN.{length}
 use Rattle.machine.specs.Lists.{In}
-use Rattle.machine.specs.Runs.{Machine, size, couple, move, Sound, Changes, Goes, Run, visitsFrom, visits, Visitor, Marked}
+use Rattle.machine.specs.Runs.{Machine, size, couple, move, Sound, Goes, Run, visitsFrom, visits, Marked}
 use Rattle.machine.specs.Boards.{Board, readingsFrom, readings, specified, Differ, Alike}
 use Rattle.machine.proofs.Couples.{couple-same, moves}
 

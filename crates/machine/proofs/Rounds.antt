@@ -1,57 +1,24 @@
 -- The laws of rounds: what holds after k rounds holds after one more, since a couple of rank k + 1 has a parent of rank k, and a round
 -- that finds none ends it.
-use mathlib.Core.Path.{_≡_, refl, sym, ap, subst, subst₂, _∙_}
+use mathlib.Core.Path.{_≡_, refl, sym, ap, subst, _∙_}
 use mathlib.Core.Logic.{_⊎_, ⊎-elim, inl, inr}
 use mathlib.Core.List.{List, [], _∷_}
-use Prim.Native.Nat.{ℕ, zero, suc, _+_, _*_, _-_, _^_, _≤_, _<_, zero-le}
+use Prim.Native.Nat.{ℕ, suc, _-_, _≤_, _<_, zero-le}
 use native.Mathlib.Nat.{le-refl}
 use native.Mathlib.Omega.{arith}
 use lib.ListN.{length, getD}
 use Rattle.machine.specs.Limits.{unmarked}
-use Rattle.machine.specs.Runs.{Machine, couples, couple, Sound, Rank, Marked, RankOrUnmarked}
-use Rattle.machine.specs.Shortest.{Steps, Parent}
-use Rattle.machine.specs.Model.{Listed}
-use Rattle.machine.specs.Rounds.{Begins, Started, Least, Turned, Round, Given, Ranked, Level}
-use Rattle.machine.specs.Rounds.Turned.{kept, found, none}
-use Rattle.machine.specs.Rounds.Given.{given, same}
-use Rattle.machine.specs.Rounds.Ranked.{ranked, unranked}
+use Rattle.machine.specs.Runs.{Machine, couples, Sound, Rank, RankOrUnmarked}
+use Rattle.machine.specs.Shortest.{Parent}
+use Rattle.machine.specs.inner.Model.{Listed}
+use Rattle.machine.specs.inner.Rounds.{Begins, Started, Turned, Round, Ranked, Level}
+use Rattle.machine.specs.inner.Rounds.Turned.{kept, found, none}
+use Rattle.machine.specs.inner.Rounds.Ranked.{ranked, unranked}
 use Rattle.machine.proofs.Order.{below-or, equal-or}
 use Rattle.machine.proofs.Trails.{Trail}
-use Rattle.machine.proofs.Shortest.{some-trail, trail-rank, rank-trail, rank-has}
+use Rattle.machine.proofs.Shortest.{trail-rank, rank-trail, rank-has}
 use Rattle.machine.proofs.Exists.{trail-marked, marked-below, marked-rank, parent-exists}
 use Rattle.machine.proofs.Small.{rank-unique, rank-small, ranks-along}
-
-least-more : {m : Machine} {R : List ℕ} {k t c p : ℕ} → Least m R k t c p → Least m R k (suc t) c p
-least-more {t = t} x = record {
-  below = omega (arith, x .below);
-  steps = x .steps;
-  ranked = x .ranked;
-  least = λ q l s e. ⊎-elim (λ h. x .least q h s e) (λ h. omega (arith, x .below)) (below-or q t);
-}
-
--- a round's loop over the couples
-module _ {m : Machine} {k : ℕ} {R P : List ℕ} where
-  pub turned-none : (c : ℕ) → Turned m k 0 R P R P c
-  turned-none c = ⊎-elim (λ e. none e (λ p l. absurd (omega arith)) e) (λ e. kept e refl refl) (equal-or (getD R c 0) unmarked)
-
-  -- past a couple that is not of rank k, or does not rest
-  pub turned-skip : {t c : ℕ} {R′ P′ : List ℕ} → (Steps m t c → getD R t 0 ≡ k → ⊥) → Turned m k t R P R′ P′ c → Turned m k (suc t) R P R′ P′ c
-  turned-skip n (kept ne e f) = kept ne e f
-  turned-skip n (found g x e) = found g (least-more x) e
-  turned-skip {t} {c} n (none g never e) = none g
-      (λ p l s f. ⊎-elim (λ q. n (subst (λ (d : ℕ). Steps m d c) q s) (ap (λ (d : ℕ). getD R d 0) (sym q) ∙ f)) (λ (q : p ≡ t → ⊥). never p (omega arith) s f) (equal-or p t)) e
-
-  -- past one that is
-  pub turned-spread : {t c : ℕ} {R′ P′ R″ P″ : List ℕ} → suc k < unmarked → getD R t 0 ≡ k
-      → Turned m k t R P R′ P′ c → Given (Steps m t) (suc k) t R′ P′ R″ P″ c → Turned m k (suc t) R P R″ P″ c
-  turned-spread h r (kept ne e f) (given s g a b) = absurd (ne (sym e ∙ g))
-  turned-spread h r (kept ne e f) (same n a b) = kept ne (a ∙ e) (b ∙ f)
-  turned-spread h r (found g x e) (given s f a b) = absurd (omega arith)
-  turned-spread {t} {c} h r (found g x e) (same n a b) = found g (subst (Least m R k (suc t) c) (sym b) (least-more x)) (a ∙ e)
-  turned-spread {t} {c} h r (none g never e) (given s f a b) = found g
-      (subst (Least m R k (suc t) c) (sym b) (record { below = le-refl (suc t); steps = s; ranked = r; least = λ q l w i. ⊎-elim (λ z. absurd (never q z w i)) (λ z. z) (below-or q t) })) a
-  turned-spread {t} {c} h r (none g never e) (same n a b) = none g
-      (λ p l s f. ⊎-elim (λ q. n (subst (λ (d : ℕ). Steps m d c) q s) e) (λ (q : p ≡ t → ⊥). never p (omega arith) s f) (equal-or p t)) (a ∙ e)
 
 module _ {m : Machine} (ok : Sound m) where
   rank-below : {c r : ℕ} → Rank m c r → c < couples m
@@ -119,10 +86,6 @@ module _ {m : Machine} (ok : Sound m) where
         parent : (r c : ℕ) → Rank m c (suc r) → Ranked m k R P c → Parent m r c (getD P c 0)
         parent r c x (ranked y i p) = p r (rank-unique y x)
         parent r c x (unranked e n) = absurd (omega (arith, n (suc r) x, high x))
-
-    -- no couple has a rank that is not below the number of couples
-    pub level-ends : couples m ≤ k → k < unmarked → (c : ℕ) → c < couples m → getD R c 0 ≡ k → ⊥
-    level-ends few h c l e = omega (arith, rank-small ok (listed-is c l e h))
 
   pub level-start : (R P : List ℕ) → Started m R → Level m 0 R P
   level-start R P s c l = ⊎-elim

@@ -1,8 +1,6 @@
 -- Two relations of moves that agree on the couples have the same transients, the same states reached, the same starts: each is carried
 -- over move by move.
-use mathlib.Core.Path.{_≡_}
-use Prim.Native.Nat.{ℕ, _≤_, _<_}
-use Rattle.machine.specs.Couples.{Couple}
+use Prim.Native.Nat.{ℕ, _<_}
 use Rattle.machine.specs.Moves.{Transient, Reached, start, step, Unreached, Start}
 
 -- a move of M within the couples is one of N, and leads to a state
@@ -23,8 +21,8 @@ module _ {states settings : ℕ} {M N : ℕ → ℕ → ℕ → Type 0} (f : Int
       let q = reached-into i r in
       (f .inside _ _ _ (q .0) h m, step v (q .1) h (f .to _ _ _ (q .0) h m))
 
-  pub start-into : {initial : ℕ} → initial < states → Start M settings initial → Start N settings initial
-  start-into i x = record { v = x .v; below = x .below; rests = f .to _ _ _ i (x .below) (x .rests) }
+  pub start-into : {A B : ℕ → Type 0} {initial v : ℕ} → (A v → B v) → initial < states → Start M A settings initial v → Start N B settings initial v
+  start-into may i x = record { below = x .below; rests = f .to _ _ _ i (x .below) (x .rests); allowed = may (x .allowed) }
 
 pub unreached-into : {states settings initial : ℕ} {M N : ℕ → ℕ → ℕ → Type 0} → Into states settings N M → initial < states → (s : ℕ) → Unreached M states settings initial s → Unreached N states settings initial s
 unreached-into g i s x = record { state = x .state; never = λ r. x .never (reached-into g i r .1) }

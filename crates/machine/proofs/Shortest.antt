@@ -1,16 +1,16 @@
 -- The run to a couple is one run, and following parents leads to it: by induction on the rank, comparing trails from the last couple.
-use mathlib.Core.Path.{_≡_, refl, sym, ap, ap₂, subst, subst₂, _∙_}
+use mathlib.Core.Path.{_≡_, refl, sym, ap, ap₂, subst, _∙_}
 use mathlib.Core.Logic.{_⊎_, ⊎-elim, inl, inr}
 use mathlib.Core.List.{List, [], _∷_}
-use Prim.Native.Nat.{ℕ, zero, suc, _+_, _*_, _/_, _%_, _^_, _≤_, _<_}
+use Prim.Native.Nat.{ℕ, zero, suc, _%_, _≤_}
 use native.Mathlib.Omega.{arith}
 use lib.ListN.{length}
-use Rattle.machine.specs.Lists.{In, AtMost}
-use Rattle.machine.specs.Runs.{Machine, size, couple, move, Sound, Starts, Changes, Goes, Run, visitsFrom, visits, Visitor, Rank}
-use Rattle.machine.specs.Shortest.{restsFrom, rests, RunTo, Steps, Parent}
-use Rattle.machine.specs.Model.{followed}
-use Rattle.machine.proofs.Order.{below-or, equal-or}
-use Rattle.machine.proofs.Trails.{Trail, lastOf, back, along, AtLast, Earlier, length-rests, length-back, back-rests, visited-trail, trail-run}
+use Rattle.machine.specs.Lists.{AtMost}
+use Rattle.machine.specs.Runs.{Machine, size, Sound, Visitor, Rank}
+use Rattle.machine.specs.Shortest.{rests, RunTo, Steps, Parent}
+use Rattle.machine.specs.inner.Model.{followed}
+use Rattle.machine.proofs.Order.{equal-or}
+use Rattle.machine.proofs.Trails.{Trail, back, along, length-rests, length-back, back-rests, visited-trail, trail-run}
 
 at-most-antisym : (xs ys : List ℕ) → AtMost xs ys → AtMost ys xs → xs ≡ ys
 at-most-antisym [] [] f g = refl

@@ -1,15 +1,14 @@
 -- A rank is below the number of couples: the resting couples of a shortest run all differ.
-use mathlib.Core.Path.{_≡_, refl, sym, ap, subst, _∙_}
+use mathlib.Core.Path.{_≡_, refl, sym, subst, _∙_}
 use mathlib.Core.Logic.{_⊎_, ⊎-elim, inl, inr}
 use mathlib.Core.List.{List, [], _∷_}
-use mathlib.Core.Bool.{Bool, true, false}
-use Prim.Native.Nat.{ℕ, zero, suc, _+_, _*_, _-_, _^_, _≤_, _<_, zero-le}
+use mathlib.Core.Bool.{cond}
+use Prim.Native.Nat.{ℕ, zero, suc, _-_, _≤_, _<_, zero-le}
 use native.Mathlib.Omega.{arith}
 use lib.ListN.{length, getD}
 use lib.Dec.{eqb}
 use borrow.Author.Tests.{eq-eqb, ne-eqb}
-use Rattle.machine.specs.Lists.{pick}
-use Rattle.machine.specs.Runs.{Machine, couples, Sound, Visitor, Rank, Marked}
+use Rattle.machine.specs.Runs.{Machine, couples, Sound, Rank}
 use Rattle.machine.specs.Shortest.{RunTo}
 use Rattle.machine.proofs.Order.{equal-or}
 use Rattle.machine.proofs.Trails.{Trail}
@@ -24,7 +23,7 @@ pigeons (suc t) zero f below one = zero-le
 pigeons (suc t) (suc k) f below one = omega (arith, pigeons t k moved moved-below moved-one)
   where
     moved : ℕ → ℕ
-    moved i = pick (eqb (f i) t) (f k) (f i)
+    moved i = cond (eqb (f i) t) (f k) (f i)
 
     is : (i : ℕ) → i < k → ((f i ≡ t) × (moved i ≡ f k)) ⊎ ((f i ≡ t → ⊥) × (moved i ≡ f i))
     is i l = ⊎-elim (λ e. inl (e, rw (eq-eqb (f i) t e) refl)) (λ e. inr (e, rw (ne-eqb (f i) t e) refl)) (equal-or (f i) t)

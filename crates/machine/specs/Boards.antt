@@ -2,8 +2,6 @@
 use mathlib.Core.Path.{_≡_}
 use mathlib.Core.List.{List, [], _∷_}
 use Prim.Native.Nat.{ℕ, _<_}
-use lib.ListN.{getD}
-use Rattle.machine.specs.Couples.{coupleAt}
 use Rattle.machine.specs.Runs.{Machine, size, move}
 
 -- a board: the state that it resets to, its move in a state at a setting, and the output word of a state
@@ -26,10 +24,6 @@ readings b (v ∷ vs) = b .words (b .moves (b .initial) v) ∷ readingsFrom b (b
 -- the board that the specification's moves and words make: its readings are the expected ones
 abbrev pub specified : Machine → (ℕ → ℕ) → Board
 specified m word = record { initial = m .initial; moves = λ s v. move m s v; words = word }
-
--- a board by its lists of moves and words
-abbrev pub listed : ℕ → ℕ → List ℕ → List ℕ → Board
-listed settings initial table words = record { initial = initial; moves = λ s v. getD table (coupleAt settings s v) 0; words = λ s. getD words s 0 }
 
 -- the words of states all differ
 abbrev pub Differ : Machine → (ℕ → ℕ) → Type 0

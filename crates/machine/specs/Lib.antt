@@ -6,6 +6,4 @@ pub mod Runs
 pub mod Shortest
 pub mod Plans
 pub mod Boards
-pub mod Flips
-pub mod Rounds
-pub mod Model
+pub mod inner

@@ -2,7 +2,6 @@
 use mathlib.Core.Path.{_≡_}
 use mathlib.Core.Logic.{_⊎_}
 use mathlib.Core.List.{List, [], _∷_}
-use mathlib.Core.Bool.{Bool, true, false}
 use Prim.Native.Nat.{ℕ, _<_}
 
 -- x is a member of the list
@@ -15,8 +14,3 @@ abbrev pub AtMost : List ℕ → List ℕ → Type 0
 AtMost [] ys = Unit {0}
 AtMost (x ∷ xs) [] = ⊥
 AtMost (x ∷ xs) (y ∷ ys) = (x < y) ⊎ ((x ≡ y) × AtMost xs ys)
-
--- the first where the test holds, the second where it does not
-abbrev pub pick {ℓ} : {A : Type ℓ} → Bool → A → A → A
-pick true a b = a
-pick false a b = b

@@ -39,8 +39,15 @@ pub record Unreached (Moves : ℕ → ℕ → ℕ → Type 0) (states settings i
   pub state : s < states
   pub never : Reached Moves settings initial s → ⊥
 
--- a start: a setting at which the initial state rests; refusal 13 says that there is none
-pub record Start (Moves : ℕ → ℕ → ℕ → Type 0) (settings initial : ℕ) : Type 0 where
-  pub v : ℕ
+-- refusal 11: the state s has the output word of an earlier one
+pub record SameWord (word : ℕ → ℕ) (states s : ℕ) : Type 0 where
+  pub state : s < states
+  pub earlier : ℕ
+  pub before : earlier < s
+  pub same : word earlier ≡ word s
+
+-- a start: a setting at which the initial state rests, and at which a run may start; refusal 13 says that there is none
+pub record Start (Moves : ℕ → ℕ → ℕ → Type 0) (MayStart : ℕ → Type 0) (settings initial v : ℕ) : Type 0 where
   pub below : v < settings
   pub rests : Rests Moves initial v
+  pub allowed : MayStart v

@@ -9,6 +9,8 @@ use lib.Dec.{eqb}
 use Rattle.machine.specs.Limits.{unmarked}
 use Rattle.machine.specs.Lists.{In}
 use Rattle.machine.specs.Couples.{coupleAt, differing}
+use Rattle.machine.specs.Moves.{tableMoves, Start}
+use Rattle.machine.specs.declared.Frame.{Frame}
 
 -- the sizes, the table of moves, at which settings a run may start, and from which setting it may change to which
 pub record Machine : Type 0 where
@@ -19,15 +21,15 @@ pub record Machine : Type 0 where
   pub mayStart : ℕ → Bool
   pub mayChange : ℕ → ℕ → Bool
 
--- document 01's machine: a run may start at any setting, and each change is of exactly one input
-abbrev pub machine : ℕ → ℕ → ℕ → List ℕ → Machine
-machine inputs states initial table = record {
-  inputs = inputs;
-  states = states;
-  initial = initial;
+-- the machine of a frame and a table: a run may start at any setting, and each change is of exactly one input
+abbrev pub machineOf : Frame → List ℕ → Machine
+machineOf f table = record {
+  inputs = f .inputs;
+  states = f .states;
+  initial = f .initial;
   table = table;
   mayStart = λ v. true;
-  mayChange = λ v w. eqb (differing inputs v w) 1;
+  mayChange = λ v w. eqb (differing (f .inputs) v w) 1;
 }
 
 -- how many settings there are, and how many couples
@@ -51,10 +53,8 @@ pub record Sound (m : Machine) : Type 0 where
   pub begins : m .initial < m .states
 
 -- a start: a setting at which the initial state rests, and at which a run may start
-pub record Starts (m : Machine) (v : ℕ) : Type 0 where
-  pub below : v < size m
-  pub rests : move m (m .initial) v ≡ m .initial
-  pub allowed : m .mayStart v ≡ true
+abbrev pub Starts : Machine → ℕ → Type 0
+Starts m v = Start (tableMoves (m .table) (size m)) (λ u. m .mayStart u ≡ true) (size m) (m .initial) v
 
 -- a change from setting v to setting w
 pub record Changes (m : Machine) (v w : ℕ) : Type 0 where
@@ -104,3 +104,8 @@ pub record Rank (m : Machine) (c r : ℕ) : Type 0 where
 -- what a rank buffer holds for the couple c: its rank, or 65,535 if it is not marked
 abbrev pub RankOrUnmarked : Machine → ℕ → ℕ → Type 0
 RankOrUnmarked m c x = ((x < unmarked) × Rank m c x) ⊎ ((x ≡ unmarked) × (Marked m c → ⊥))
+
+-- the ranks of a machine, of each couple so
+pub record RanksOf (m : Machine) (ranks : List ℕ) : Type 0 where
+  pub whole : length ranks ≡ couples m
+  pub each : (c : ℕ) → c < couples m → RankOrUnmarked m c (getD ranks c 0)

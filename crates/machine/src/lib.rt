@@ -1,4 +1,12 @@
-// The largest sizes of a machine. The definitions of machines and runs stand in specs/, their laws in proofs/.
+// The frame of a machine, and its largest sizes. The definitions of machines and runs stand in specs/, their laws in proofs/.
+
+// What a table job is told beside the table.
+#[repr(C)]
+pub struct Frame {
+    pub inputs: usize,
+    pub states: usize,
+    pub initial: usize,
+}
 
 // Inputs.
 pub const INPUTS: usize = 8;

@@ -9,11 +9,11 @@ use native.Mathlib.Omega.{arith}
 use lib.ListN.{getD}
 use lib.Pow.{pow-pos}
 use Rattle.machine.specs.Limits.{mostSettings, unmarked}
-use Rattle.machine.specs.Flips.{flipped}
+use Rattle.machine.specs.inner.Flips.{flipped}
 use Rattle.machine.proofs.Order.{below-or, equal-or}
 use Rattle.machine.proofs.Inputs.{flip-small}
 use Rattle.machine.proofs.Couples.{settings-bound}
-use Rattle.marking.specs.Queue.{Pushed, ByChange, ByInputs, ByStart, Targets, Expands}
+use Rattle.marking.specs.inner.Queue.{Pushed, ByChange, Targets, Expands}
 use Rattle.marking.proofs.Pushing.{pushed-then, pushed-as}
 
 pub on-room : (v p : ℕ) → (v / p % 2 ≡ 0 → ⊥) → p ≤ v
@@ -44,32 +44,14 @@ module _ {r p : ℕ} {R P Q R₁ P₁ Q₁ : List ℕ} {tail t₁ : ℕ} where
       → Pushed (λ d. d ≡ t * z + w) r p R₁ P₁ Q₁ t₁ R₂ P₂ Q₂ t₂ → Pushed (ByChange T z s w) r p R P Q tail R₂ P₂ Q₂ t₂
   change-both T z s w t h e x y = rw e at (pushed-then h x y)
 
-  -- one more input
-  pub inputs-more : {R₂ P₂ Q₂ : List ℕ} {t₂ : ℕ} (T : List ℕ) (z c i : ℕ) → r < unmarked → Pushed (ByInputs T z c i) r p R P Q tail R₁ P₁ Q₁ t₁
-      → Pushed (ByChange T z (c / z) (flipped (c % z) (2 ^ i))) r p R₁ P₁ Q₁ t₁ R₂ P₂ Q₂ t₂ → Pushed (ByInputs T z c (i + 1)) r p R P Q tail R₂ P₂ Q₂ t₂
-  inputs-more T z c i h x y = pushed-as to of (pushed-then h x y)
+  -- one more input, or one more setting
+  pub one-more : {R₂ P₂ Q₂ : List ℕ} {t₂ : ℕ} (By : ℕ → ℕ → Type 0) (i : ℕ) → r < unmarked → Pushed (λ d. (j : ℕ) × (j < i) × By j d) r p R P Q tail R₁ P₁ Q₁ t₁
+      → Pushed (By i) r p R₁ P₁ Q₁ t₁ R₂ P₂ Q₂ t₂ → Pushed (λ d. (j : ℕ) × (j < i + 1) × By j d) r p R P Q tail R₂ P₂ Q₂ t₂
+  one-more By i h x y = pushed-as to of (pushed-then h x y)
     where
-      to : (d : ℕ) → ByInputs T z c i d ⊎ ByChange T z (c / z) (flipped (c % z) (2 ^ i)) d → ByInputs T z c (i + 1) d
+      to : (d : ℕ) → ((j : ℕ) × (j < i) × By j d) ⊎ By i d → (j : ℕ) × (j < i + 1) × By j d
       to d (inl (j, l, b)) = (j, omega arith, b)
       to d (inr b) = (i, omega arith, b)
 
-      of : (d : ℕ) → ByInputs T z c (i + 1) d → ByInputs T z c i d ⊎ ByChange T z (c / z) (flipped (c % z) (2 ^ i)) d
-      of d (j, l, b) = ⊎-elim
-          (λ e. inr (subst (λ (g : ℕ). ByChange T z (c / z) (flipped (c % z) (2 ^ g)) d) e b))
-          (λ (e : j ≡ i → ⊥). inl (j, omega arith, b))
-          (equal-or j i)
-
-  -- one more setting
-  pub starts-more : {R₂ P₂ Q₂ : List ℕ} {t₂ : ℕ} (T : List ℕ) (z i v : ℕ) → r < unmarked → Pushed (ByStart T z i v) r p R P Q tail R₁ P₁ Q₁ t₁
-      → Pushed (λ d. (getD T (i * z + v) 0 ≡ i) × (d ≡ i * z + v)) r p R₁ P₁ Q₁ t₁ R₂ P₂ Q₂ t₂ → Pushed (ByStart T z i (v + 1)) r p R P Q tail R₂ P₂ Q₂ t₂
-  starts-more T z i v h x y = pushed-as to of (pushed-then h x y)
-    where
-      to : (d : ℕ) → ByStart T z i v d ⊎ ((getD T (i * z + v) 0 ≡ i) × (d ≡ i * z + v)) → ByStart T z i (v + 1) d
-      to d (inl (j, l, b, e)) = (j, omega arith, b, e)
-      to d (inr b) = (v, omega arith, b .0, b .1)
-
-      of : (d : ℕ) → ByStart T z i (v + 1) d → ByStart T z i v d ⊎ ((getD T (i * z + v) 0 ≡ i) × (d ≡ i * z + v))
-      of d (j, l, b, q) = ⊎-elim
-          (λ e. inr (subst (λ (g : ℕ). (getD T (i * z + g) 0 ≡ i) × (d ≡ i * z + g)) e (b, q)))
-          (λ (e : j ≡ v → ⊥). inl (j, omega arith, b, q))
-          (equal-or j v)
+      of : (d : ℕ) → (j : ℕ) × (j < i + 1) × By j d → ((j : ℕ) × (j < i) × By j d) ⊎ By i d
+      of d (j, l, b) = ⊎-elim (λ e. inr (subst (λ (g : ℕ). By g d) e b)) (λ (e : j ≡ i → ⊥). inl (j, omega arith, b)) (equal-or j i)

@@ -3,19 +3,19 @@
 use mathlib.Core.Path.{_≡_, refl, sym, ap, _∙_}
 use mathlib.Core.Logic.{_⊎_, ⊎-elim, inl, inr}
 use mathlib.Core.List.{List}
-use Prim.Native.Nat.{ℕ, suc, _+_, _≤_, _<_}
-use native.Mathlib.Nat.{le-refl, lt-of-lt-of-le}
+use Prim.Native.Nat.{ℕ, suc, _+_, _%_, _^_, _≤_, _<_}
+use native.Mathlib.Nat.{le-refl, lt-of-lt-of-le, mod-eq-of-lt}
 use native.Mathlib.Omega.{arith}
 use lib.ListN.{getD, set, length, length-set}
 use lib.Seq.{getD-set-same, getD-set-other}
 use lib.Dec.{eqb}
 use borrow.Author.Tests.{eq-eqb, ne-eqb}
-use Rattle.machine.specs.Lists.{pick}
 use Rattle.machine.specs.Limits.{mostCouples, unmarked}
 use Rattle.machine.proofs.Order.{equal-or}
 use Rattle.machine.proofs.Small.{pigeons}
-use Rattle.marking.specs.Queue.{Offer, Room, Fresh, Pushed}
-use Rattle.marking.specs.Queue.Offer.{given, lower, same}
+use Rattle.marking.specs.inner.Queue.{Offer, Room, Fresh, Pushed}
+use Rattle.marking.specs.inner.Queue.Offer.{given, lower, same}
+use mathlib.Core.Bool.{cond}
 
 module _ {r p : ℕ} {R P : List ℕ} where
   offer-none : {A : ℕ → Type 0} {c : ℕ} → (A c → ⊥) → Offer A r p R P R P c
@@ -45,7 +45,7 @@ room-left : {R P Q : List ℕ} {tail : ℕ} → Room R P Q tail → (c : ℕ) �
 room-left {R} {P} {Q} {tail} x c l e = pigeons (length R) (suc tail) f below one
   where
     f : ℕ → ℕ
-    f i = pick (eqb i tail) c (getD Q i 0)
+    f i = cond (eqb i tail) c (getD Q i 0)
 
     is : (i : ℕ) → i < suc tail → ((i ≡ tail) × (f i ≡ c)) ⊎ ((i < tail) × (f i ≡ getD Q i 0))
     is i h = ⊎-elim (λ q. inl (q, rw (eq-eqb i tail q) refl)) (λ (q : i ≡ tail → ⊥). inr (omega arith, rw (ne-eqb i tail q) refl)) (equal-or i tail)
@@ -61,6 +61,10 @@ room-left {R} {P} {Q} {tail} x c l e = pigeons (length R) (suc tail) f below one
         (λ a. ⊎-elim (λ b. a .0 ∙ sym (b .0)) (λ b. absurd (new j (b .0) (sym (b .1) ∙ sym q ∙ a .1))) (is j k))
         (λ a. ⊎-elim (λ b. absurd (new i (a .0) (sym (a .1) ∙ q ∙ b .1))) (λ b. x .once i j (a .0) (b .0) (sym (a .1) ∙ q ∙ b .1)) (is j k))
         (is i h)
+
+-- a couple's number, which two bytes hold
+pub narrowed : {R P Q : List ℕ} {tail c x : ℕ} → Room R P Q tail → c < length R → x ≡ c % 2 ^ 16 → x ≡ c
+narrowed x l e = e ∙ mod-eq-of-lt (omega (arith, x .few))
 
 pub room-free : {R P Q : List ℕ} {tail : ℕ} → Room R P Q tail → (c : ℕ) → c < length R → getD R c 0 ≡ unmarked → (tail < length Q) × (tail < mostCouples)
 room-free x c l e = (omega (arith, room-left x c l e, x .long), omega (arith, room-left x c l e, x .few))

@@ -1,2 +1,2 @@
 pub mod Marking
-pub mod Queue
+pub mod inner

@@ -3,18 +3,21 @@ ghost use mathlib.Core.Path.{_≡_};
 ghost use Prim.Native.Nat.{ℕ, _+_, _*_, _^_, _≤_, _<_};
 ghost use lib.ListN.{length, getD};
 ghost use Rattle.verdict.specs.Buffers.{Filled};
-ghost use Rattle.machine.specs.Limits.{mostSettings, mostCouples, unmarked};
-ghost use Rattle.machine.specs.Flips.{flipped};
-ghost use Rattle.machine.specs.Runs.{machine, RankOrUnmarked};
+ghost use Rattle.machine.specs.Limits.{mostSettings, unmarked};
+ghost use Rattle.machine.specs.inner.Flips.{flipped};
+ghost use Rattle.machine.specs.Runs.{machineOf, RankOrUnmarked};
 ghost use Rattle.machine.specs.Shortest.{ParentOrNone};
-ghost use Rattle.marking.specs.Queue.{Room, Pushed, ByChange, ByInputs, ByRest, ByStart, Spreads, Targets, Expands, Leveled, Ready};
+ghost use Rattle.marking.specs.inner.Queue.{Room, Pushed, ByChange, ByInputs, ByRest, ByStart, Spreads, Targets, Expands, Leveled, Ready};
+use basics::long;
+use basics::narrow;
+use basics::wide;
 use machine::COUPLES;
+use machine::Frame;
 use machine::UNMARKED;
-use tables::wide;
 
-// How many inputs a machine has, and how many settings.
-struct Inputs {
-    count: usize,
+// A machine's frame, and how many settings it has.
+struct Sizes {
+    frame: Frame,
     settings: usize,
 }
 
@@ -22,20 +25,6 @@ struct Inputs {
 struct Offered {
     rank: u16,
     parent: u16,
-}
-
-// A couple's number, as it stands in a buffer and as it is counted with.
-fn narrow(couple: usize) -> u16
-    requires { ⌜ couple < mostCouples ⌝ }
-    ensures { λ r. ⌜ r ≡ couple ⌝ }
-{
-    couple as u16
-}
-
-fn number(couple: u16) -> usize
-    ensures { λ r. ⌜ r ≡ couple ⌝ }
-{
-    couple as usize
 }
 
 // The setting with the input of this weight flipped.
@@ -85,16 +74,16 @@ fn change(
     parents: &mut [u16],
     queue: &mut [u16],
     tail: usize,
-    inputs: Inputs,
+    sizes: Sizes,
     state: usize,
     setting: usize,
     offer: Offered,
 ) -> usize
-    requires { ⌜ Room (now ranks) (now parents) (now queue) tail × Targets (now table) (now ranks) (inputs .settings) state setting × (offer .rank < unmarked) ⌝ }
-    ensures { λ end. ⌜ Pushed (ByChange (now (table .entry)) (inputs .settings) state setting) (offer .rank) (offer .parent) (now (ranks .entry)) (now (parents .entry)) (now (queue .entry)) tail (now (ranks .exit)) (now (parents .exit)) (now (queue .exit)) end ⌝ }
+    requires { ⌜ Room (now ranks) (now parents) (now queue) tail × Targets (now table) (now ranks) (sizes .settings) state setting × (offer .rank < unmarked) ⌝ }
+    ensures { λ end. ⌜ Pushed (ByChange (now (table .entry)) (sizes .settings) state setting) (offer .rank) (offer .parent) (now (ranks .entry)) (now (parents .entry)) (now (queue .entry)) tail (now (ranks .exit)) (now (parents .exit)) (now (queue .exit)) end ⌝ }
 {
-    let couple = state * inputs.settings + setting;
-    let moved = wide(table[couple]) * inputs.settings + setting;
+    let couple = state * sizes.settings + setting;
+    let moved = wide(table[couple]) * sizes.settings + setting;
     let between = push(ranks, parents, queue, tail, couple, offer);
     push(ranks, parents, queue, between, moved, offer)
 }
@@ -106,15 +95,15 @@ fn expand(
     parents: &mut [u16],
     queue: &mut [u16],
     tail: usize,
-    inputs: Inputs,
+    sizes: Sizes,
     couple: usize,
     rank: u16,
 ) -> usize
-    requires { ⌜ Expands (now table) (now ranks) (now parents) (now queue) (inputs .settings) (inputs .count) tail couple rank ⌝ }
-    ensures { λ end. ⌜ Pushed (ByInputs (now (table .entry)) (inputs .settings) couple (inputs .count)) rank couple (now (ranks .entry)) (now (parents .entry)) (now (queue .entry)) tail (now (ranks .exit)) (now (parents .exit)) (now (queue .exit)) end ⌝ }
+    requires { ⌜ Expands (now table) (now ranks) (now parents) (now queue) (sizes .settings) (sizes .frame .inputs) tail couple rank ⌝ }
+    ensures { λ end. ⌜ Pushed (ByInputs (now (table .entry)) (sizes .settings) couple (sizes .frame .inputs)) rank couple (now (ranks .entry)) (now (parents .entry)) (now (queue .entry)) tail (now (ranks .exit)) (now (parents .exit)) (now (queue .exit)) end ⌝ }
 {
-    let state = couple / inputs.settings;
-    let setting = couple % inputs.settings;
+    let state = couple / sizes.settings;
+    let setting = couple % sizes.settings;
     let offer = Offered {
         rank: rank,
         parent: narrow(couple),
@@ -122,9 +111,9 @@ fn expand(
     let mut end = tail;
     let mut weight: usize = 1;
     let mut i: usize = 0;
-    while i < inputs.count {
+    while i < sizes.frame.inputs {
         let to = flip(setting, weight);
-        end = change(table, ranks, parents, queue, end, inputs, state, to, offer);
+        end = change(table, ranks, parents, queue, end, sizes, state, to, offer);
         weight = weight * 2;
         i += 1;
     }
@@ -138,15 +127,15 @@ fn take(
     parents: &mut [u16],
     queue: &mut [u16],
     tail: usize,
-    inputs: Inputs,
+    sizes: Sizes,
     couple: usize,
     rank: u16,
 ) -> usize
-    requires { ⌜ Expands (now table) (now ranks) (now parents) (now queue) (inputs .settings) (inputs .count) tail couple rank ⌝ }
-    ensures { λ end. ⌜ Pushed (ByRest (now (table .entry)) (inputs .settings) (inputs .count) couple) rank couple (now (ranks .entry)) (now (parents .entry)) (now (queue .entry)) tail (now (ranks .exit)) (now (parents .exit)) (now (queue .exit)) end ⌝ }
+    requires { ⌜ Expands (now table) (now ranks) (now parents) (now queue) (sizes .settings) (sizes .frame .inputs) tail couple rank ⌝ }
+    ensures { λ end. ⌜ Pushed (ByRest (now (table .entry)) (sizes .settings) (sizes .frame .inputs) couple) rank couple (now (ranks .entry)) (now (parents .entry)) (now (queue .entry)) tail (now (ranks .exit)) (now (parents .exit)) (now (queue .exit)) end ⌝ }
 {
-    if wide(table[couple]) == couple / inputs.settings {
-        return expand(table, ranks, parents, queue, tail, inputs, couple, rank);
+    if wide(table[couple]) == couple / sizes.settings {
+        return expand(table, ranks, parents, queue, tail, sizes, couple, rank);
     }
     tail
 }
@@ -159,17 +148,17 @@ fn level(
     queue: &mut [u16],
     from: usize,
     to: usize,
-    inputs: Inputs,
+    sizes: Sizes,
     rank: u16,
 ) -> usize
-    requires { ⌜ Leveled (now table) (now ranks) (now parents) (now queue) (inputs .settings) (inputs .count) rank from to ⌝ }
-    ensures { λ end. ⌜ Spreads (ByRest (now (table .entry)) (inputs .settings) (inputs .count)) rank from to to (now (ranks .entry)) (now (parents .entry)) (now (queue .entry)) (now (ranks .exit)) (now (parents .exit)) (now (queue .exit)) end ⌝ }
+    requires { ⌜ Leveled (now table) (now ranks) (now parents) (now queue) (sizes .settings) (sizes .frame .inputs) rank from to ⌝ }
+    ensures { λ end. ⌜ Spreads (ByRest (now (table .entry)) (sizes .settings) (sizes .frame .inputs)) rank from to to (now (ranks .entry)) (now (parents .entry)) (now (queue .entry)) (now (ranks .exit)) (now (parents .exit)) (now (queue .exit)) end ⌝ }
 {
     let mut tail = to;
     let mut head = from;
     while head < to {
-        let couple = number(queue[head]);
-        tail = take(table, ranks, parents, queue, tail, inputs, couple, rank + 1);
+        let couple = long(queue[head]);
+        tail = take(table, ranks, parents, queue, tail, sizes, couple, rank + 1);
         head += 1;
     }
     tail
@@ -217,47 +206,39 @@ fn give_starts(
 }
 
 // The starts, then the levels one after the other, until one is empty.
-fn levels(
-    inputs: Inputs,
-    states: usize,
-    initial: usize,
-    table: &[u8],
-    ranks: &mut [u16],
-    parents: &mut [u16],
-    queue: &mut [u16],
-)
-    requires { ⌜ Ready (machine (inputs .count) states initial (now table)) (now ranks) (now parents) × (inputs .settings ≡ 2 ^ (inputs .count)) × (length (now ranks) ≤ length (now queue)) ⌝ }
-    ensures ranks { λ _. ⌜ Filled (states * 2 ^ (inputs .count)) (RankOrUnmarked (machine (inputs .count) states initial (now (table .entry)))) (now (ranks .entry)) (now (ranks .exit)) ⌝ }
-    ensures parents { λ _. ⌜ Filled (states * 2 ^ (inputs .count)) (ParentOrNone (machine (inputs .count) states initial (now (table .entry)))) (now (parents .entry)) (now (parents .exit)) ⌝ }
+fn levels(sizes: Sizes, table: &[u8], ranks: &mut [u16], parents: &mut [u16], queue: &mut [u16])
+    requires { ⌜ Ready (machineOf (sizes .frame) (now table)) (now ranks) (now parents) × (sizes .settings ≡ 2 ^ sizes .frame .inputs) × (length (now ranks) ≤ length (now queue)) ⌝ }
+    ensures ranks { λ _. ⌜ Filled (sizes .frame .states * 2 ^ sizes .frame .inputs) (RankOrUnmarked (machineOf (sizes .frame) (now (table .entry)))) (now (ranks .entry)) (now (ranks .exit)) ⌝ }
+    ensures parents { λ _. ⌜ Filled (sizes .frame .states * 2 ^ sizes .frame .inputs) (ParentOrNone (machineOf (sizes .frame) (now (table .entry)))) (now (parents .entry)) (now (parents .exit)) ⌝ }
 {
-    let mut tail = give_starts(table, ranks, parents, queue, inputs.settings, initial);
+    let mut tail = give_starts(
+        table,
+        ranks,
+        parents,
+        queue,
+        sizes.settings,
+        sizes.frame.initial,
+    );
     let mut from: usize = 0;
     let mut rank: u16 = 0;
     while from < tail {
         let to = tail;
-        tail = level(table, ranks, parents, queue, from, to, inputs, rank);
+        tail = level(table, ranks, parents, queue, from, to, sizes, rank);
         from = to;
         rank += 1;
     }
 }
 
 // The ranks and parents of a sound machine, in blank buffers of as many elements as there are couples.
-pub(crate) fn fill(
-    inputs: usize,
-    states: usize,
-    initial: usize,
-    table: &[u8],
-    ranks: &mut [u16],
-    parents: &mut [u16],
-)
-    requires { ⌜ Ready (machine inputs states initial (now table)) (now ranks) (now parents) ⌝ }
-    ensures ranks { λ _. ⌜ Filled (states * 2 ^ inputs) (RankOrUnmarked (machine inputs states initial (now (table .entry)))) (now (ranks .entry)) (now (ranks .exit)) ⌝ }
-    ensures parents { λ _. ⌜ Filled (states * 2 ^ inputs) (ParentOrNone (machine inputs states initial (now (table .entry)))) (now (parents .entry)) (now (parents .exit)) ⌝ }
+pub(crate) fn fill(frame: Frame, table: &[u8], ranks: &mut [u16], parents: &mut [u16])
+    requires { ⌜ Ready (machineOf frame (now table)) (now ranks) (now parents) ⌝ }
+    ensures ranks { λ _. ⌜ Filled (frame .states * 2 ^ frame .inputs) (RankOrUnmarked (machineOf frame (now (table .entry)))) (now (ranks .entry)) (now (ranks .exit)) ⌝ }
+    ensures parents { λ _. ⌜ Filled (frame .states * 2 ^ frame .inputs) (ParentOrNone (machineOf frame (now (table .entry)))) (now (parents .entry)) (now (parents .exit)) ⌝ }
 {
-    let all = Inputs {
-        count: inputs,
-        settings: tables::settings(inputs),
+    let sizes = Sizes {
+        frame: frame,
+        settings: tables::settings(frame.inputs),
     };
     let mut queue = [0u16; COUPLES];
-    levels(all, states, initial, table, ranks, parents, &mut queue);
+    levels(sizes, table, ranks, parents, &mut queue);
 }

@@ -11,8 +11,8 @@ use native.Mathlib.Omega.{arith}
 use lib.ListN.{length, getD, set, drop, length-append}
 use Rattle.machine.specs.Limits.{mostSettings}
 use Rattle.machine.specs.Plans.{storedRun}
-use Rattle.machine.specs.Model.{followed}
-use Rattle.plan.specs.Writing.{settings, piece, pieces, Within}
+use Rattle.machine.specs.inner.Model.{followed}
+use Rattle.plan.specs.inner.Writing.{settings, piece, pieces, InTree}
 use Rattle.plan.proofs.Fronts.{drop-set-here}
 
 -- what stands behind the settings stays there
@@ -40,10 +40,10 @@ module _ (P : List ℕ) (z : ℕ) where
   settings-back c m n l e h =
       rw (e, add-one m, settings-more, append-assoc) (ap (λ (t : List ℕ). settings P z (getD P c 0) m ++ t) (drop-set-here l m (c % z) h))
 
-pub parent-within : {P : List ℕ} {z c : ℕ} (w : Within P z c) → Within P z (getD P c 0)
-parent-within {P} {z} {c} w = record { total = w .total; tree = w .tree; below = w .tree .parent c (w .below) }
+pub parent-in-tree : {P : List ℕ} {z c : ℕ} (w : InTree P z c) → InTree P z (getD P c 0)
+parent-in-tree {P} {z} {c} w = record { total = w .total; tree = w .tree; below = w .tree .parent c (w .below) }
 
-pub setting-small : {P : List ℕ} {z c : ℕ} (w : Within P z c) → (d : ℕ) → d % z < mostSettings
+pub setting-small : {P : List ℕ} {z c : ℕ} (w : InTree P z c) → (d : ℕ) → d % z < mostSettings
 setting-small {P} {z} w d = omega (arith, mod-lt d (w .tree .some), w .tree .small)
 
 -- the stored run to a couple of rank r

@@ -2,7 +2,7 @@
 use mathlib.Core.Path.{_≡_, refl, sym, ap₂, _∙_}
 use mathlib.Core.Logic.{⊎-elim}
 use mathlib.Core.List.{List, [], _++_}
-use mathlib.Core.Bool.{Bool, true, false}
+use mathlib.Core.Bool.{Bool, true, false, cond}
 use Prim.Native.Nat.{ℕ, zero, suc, _+_, _≤_, _<_}
 use native.Mathlib.Nat.{eq-or-lt-of-le, le-refl}
 use native.Mathlib.Omega.{arith}
@@ -10,14 +10,13 @@ use lib.ListN.{length, getD, length-set, length-append}
 use lib.Seq.{getD-set-same, getD-set-other}
 use Rattle.verdict.proofs.Tests.{true≢false}
 use Rattle.machine.specs.Limits.{unmarked}
-use Rattle.machine.specs.Lists.{pick}
 use Rattle.machine.specs.Plans.{storedRun}
-use Rattle.plan.specs.Writing.{settings, piece, pieces, Flags}
-use Rattle.plan.specs.Choosing.{wanted, bytesAt, noted, flags, bytes, plan, Chosen}
+use Rattle.plan.specs.inner.Writing.{settings, piece, pieces, Flags}
+use Rattle.plan.specs.inner.Choosing.{wanted, bytesAt, noted, flags, bytes, plan, Chosen}
 use Rattle.plan.proofs.Chains.{length-stored}
 use Rattle.plan.proofs.Turns.{wanted-unmarked}
 
-length-picked : (b : Bool) (P : List ℕ) (z c r : ℕ) → length (pick b (storedRun (settings P z c (r + 1))) []) ≡ pick b (r + 3) 0
+length-picked : (b : Bool) (P : List ℕ) (z c r : ℕ) → length (cond b (storedRun (settings P z c (r + 1))) []) ≡ cond b (r + 3) 0
 length-picked true P z c r = length-stored P z c r
 length-picked false P z c r = refl
 

@@ -8,7 +8,7 @@ use lib.ListN.{length, set, drop, take, length-append, length-drop}
 use lib.Seq.{drop-cons, getD-set-same, drop-set-lt, drop-drop, drop-length, take-all, take-at, drop-at, lt-length-set}
 use borrow.Rule.Slice.PartMut.{post-is}
 use Rattle.verdict.specs.Buffers.{Front}
-use Rattle.plan.specs.Writing.{Put}
+use Rattle.plan.specs.inner.Writing.{Put}
 
 -- from index m on, after a write at m
 pub drop-set-here : (l : List ℕ) (m v : ℕ) → m < length l → drop m (set l m v) ≡ v ∷ drop (suc m) l

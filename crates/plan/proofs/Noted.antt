@@ -18,12 +18,12 @@ use Rattle.machine.specs.Lists.{In}
 use Rattle.machine.specs.Runs.{Machine, Sound, size, couples, couple, move, visits, Marked, Rank}
 use Rattle.machine.specs.Shortest.{RunTo}
 use Rattle.machine.specs.Plans.{VisitedBy, Plan, storedRun, stored}
-use Rattle.machine.specs.Model.{Listed}
+use Rattle.machine.specs.inner.Model.{Listed}
 use Rattle.machine.proofs.Members.{in-front, in-back, in-either}
 use Rattle.machine.proofs.Shortest.{followed-run}
 use Rattle.machine.proofs.Stored.{stored-more}
-use Rattle.plan.specs.Writing.{settings}
-use Rattle.plan.specs.Choosing.{notedChange, notedRun, wanted, notedAt, noted, plan}
+use Rattle.plan.specs.inner.Writing.{settings}
+use Rattle.plan.specs.inner.Choosing.{notedChange, notedRun, wanted, notedAt, noted, plan}
 use Rattle.plan.proofs.Turns.{wanted-unmarked, wanted-visited, wanted-here}
 use Rattle.plan.proofs.Visits.{visits-first, visits-last}
 

@@ -9,7 +9,7 @@ use lib.ListN.{getD, set}
 use lib.Seq.{set-set}
 use borrow.Author.Tests.{eq-eqb, ne-eqb}
 use Rattle.machine.specs.Limits.{unmarked}
-use Rattle.plan.specs.Choosing.{notedChange, notedRun, wanted, notedAt, bytesAt, noted, flags, bytes, Turn, Chosen, Reach, RoomFor}
+use Rattle.plan.specs.inner.Choosing.{notedChange, notedRun, wanted, notedAt, bytesAt, noted, flags, bytes, Turn, Chosen, Reach, RoomFor}
 
 -- one change noted, one fewer is left
 pub noted-back : (T P : List ℕ) (z c m n : ℕ) (W : List Bool) → n ≡ m + 1

@@ -10,9 +10,9 @@ use lib.ListN.{length, getD}
 use lib.Arith.{digits-div}
 use Rattle.machine.specs.Runs.{Machine, size, couple, move, visits, visitsFrom, Visitor, Rank}
 use Rattle.machine.specs.Shortest.{Parent}
-use Rattle.machine.specs.Model.{Listed}
+use Rattle.machine.specs.inner.Model.{Listed}
 use Rattle.machine.proofs.Trails.{stepped}
-use Rattle.plan.specs.Writing.{settings}
+use Rattle.plan.specs.inner.Writing.{settings}
 use Rattle.plan.proofs.Chains.{settings-none, settings-more, length-settings}
 
 -- the state in which settings end

@@ -1,3 +1,2 @@
 pub mod Planning
-pub mod Writing
-pub mod Choosing
+pub mod inner

@@ -2,52 +2,55 @@
 ghost use mathlib.Core.Path.{_≡_};
 ghost use mathlib.Core.List.{[], _∷_};
 ghost use mathlib.Core.Bool.{true, false};
-ghost use Prim.Native.Nat.{ℕ, _+_, _*_, _/_, _%_, _≤_, _<_};
+ghost use Prim.Native.Nat.{_+_, _*_, _/_, _%_, _≤_, _<_};
 ghost use lib.ListN.{length, getD};
 ghost use Rattle.verdict.specs.Buffers.{Front};
 ghost use Rattle.machine.specs.Limits.{mostCouples, unmarked};
-ghost use Rattle.machine.specs.Runs.{machine};
+ghost use Rattle.machine.specs.Runs.{machineOf};
 ghost use Rattle.machine.specs.Plans.{storedRun};
 ghost use Rattle.plan.specs.Planning.{RunAs, PlannedAs};
-ghost use Rattle.plan.specs.Writing.{settings, piece, pieces, Tree, Within, Put, Flags};
-ghost use Rattle.plan.specs.Choosing.{notedChange, notedRun, Reach, Room, RoomFor, Turn, Chosen};
+ghost use Rattle.plan.specs.inner.Writing.{settings, piece, pieces, Tree, InTree, Put, Flags};
+ghost use Rattle.plan.specs.inner.Choosing.{notedChange, notedRun, Reach, Room, RoomFor, Turn, Chosen};
+use basics::byte;
+use basics::long;
+use basics::wide;
 use machine::COUPLES;
+use machine::Frame;
 use machine::UNMARKED;
-use tables::wide;
+use marking::mark_parents;
 use verdict::Answer;
 
 // Writes the run to a couple, one byte a setting, and answers how many settings it has; or the first failing check at its smallest
 // place. The ranks are filled as by marking.
 pub fn run_to(
-    inputs: usize,
-    states: usize,
-    initial: usize,
+    frame: Frame,
     table: &[u8],
     ranks: &mut [u16],
     couple: usize,
     run: &mut [u8],
 ) -> Answer
-    ensures { λ r. ⌜ RunAs (machine inputs states initial (now (table .entry))) couple (now (ranks .entry)) (now (run .entry)) r (now (ranks .exit)) (now (run .exit)) ⌝ }
+    ensures { λ r. ⌜ RunAs (machineOf frame (now (table .entry))) couple (now (ranks .entry)) (now (run .entry)) r (now (ranks .exit)) (now (run .exit)) ⌝ }
 {
     let mut parents = [0u16; COUPLES];
-    let marked = marking::mark_parents(inputs, states, initial, table, ranks, &mut parents);
+    let marked = mark_parents(frame, table, ranks, &mut parents);
     if marked.number != 0 {
         return marked;
     }
-    let size = tables::settings(inputs);
-    if states * size <= couple {
+    let size = tables::settings(frame.inputs);
+    if frame.states * size <= couple {
         return Answer {
             number: 14,
             place: 0,
         };
     }
-    if ranks[couple] == UNMARKED {
+    let cell = ranks[couple];
+    if cell == UNMARKED {
         return Answer {
             number: 15,
             place: 0,
         };
     }
-    let rank = long(ranks[couple]);
+    let rank = long(cell);
     let needed = rank + 1;
     if run.len() < needed {
         return Answer {
@@ -64,23 +67,16 @@ pub fn run_to(
 
 // Writes the plan in its stored form and answers how many bytes it has; or the first failing check at its smallest place. The ranks are
 // filled as by marking; a plan that does not fit whole is not written at all.
-pub fn plan(
-    inputs: usize,
-    states: usize,
-    initial: usize,
-    table: &[u8],
-    ranks: &mut [u16],
-    plan: &mut [u8],
-) -> Answer
-    ensures { λ r. ⌜ PlannedAs (machine inputs states initial (now (table .entry))) (now (ranks .entry)) (now (plan .entry)) r (now (ranks .exit)) (now (plan .exit)) ⌝ }
+pub fn plan(frame: Frame, table: &[u8], ranks: &mut [u16], plan: &mut [u8]) -> Answer
+    ensures { λ r. ⌜ PlannedAs (machineOf frame (now (table .entry))) (now (ranks .entry)) (now (plan .entry)) r (now (ranks .exit)) (now (plan .exit)) ⌝ }
 {
     let mut parents = [0u16; COUPLES];
-    let marked = marking::mark_parents(inputs, states, initial, table, ranks, &mut parents);
+    let marked = mark_parents(frame, table, ranks, &mut parents);
     if marked.number != 0 {
         return marked;
     }
-    let size = tables::settings(inputs);
-    let couples = states * size;
+    let size = tables::settings(frame.inputs);
+    let couples = frame.states * size;
     let mut visited = [false; COUPLES];
     let mut chosen = [false; COUPLES];
     let bytes = choose(
@@ -217,7 +213,7 @@ fn store_chosen(
     c: usize,
     rest: &mut [u8],
 ) -> usize
-    requires { ⌜ Within (now parents) size c ⌝ }
+    requires { ⌜ InTree (now parents) size c ⌝ }
     requires { ⌜ (c < length (now ranks)) × (c < length (now chosen)) ⌝ }
     requires { ⌜ (getD (now chosen) c false ≡ true → getD (now ranks) c 0 < unmarked) ⌝ }
     requires { ⌜ length (piece (now parents) (now ranks) size (now chosen) c) ≤ length (now rest) ⌝ }
@@ -231,7 +227,7 @@ fn store_chosen(
 
 // Writes the run to a couple in its stored form, and answers the bytes written.
 fn store_run(parents: &[u16], size: usize, couple: usize, rank: usize, rest: &mut [u8]) -> usize
-    requires { ⌜ Within (now parents) size couple ⌝ }
+    requires { ⌜ InTree (now parents) size couple ⌝ }
     requires { ⌜ (rank < unmarked) × (rank + 3 ≤ length (now rest)) ⌝ }
     ensures { λ r. ⌜ Put (storedRun (settings (now (parents .entry)) size couple (rank + 1))) r (now (rest .entry)) (now (rest .exit)) ⌝ }
 {
@@ -245,13 +241,13 @@ fn write_count(n: usize, rest: &mut [u8])
     requires { ⌜ (n ≤ unmarked) × (2 ≤ length (now rest)) ⌝ }
     ensures { λ _. ⌜ Put (n % 256 ∷ n / 256 ∷ []) 2 (now (rest .entry)) (now (rest .exit)) ⌝ }
 {
-    rest[0] = byte(n % 256);
+    rest[0] = byte(n);
     rest[1] = byte(n / 256);
 }
 
 // Writes the settings of the run to a couple, from the last one back to the start.
 fn write_run(parents: &[u16], size: usize, couple: usize, rank: usize, run: &mut [u8])
-    requires { ⌜ Within (now parents) size couple ⌝ }
+    requires { ⌜ InTree (now parents) size couple ⌝ }
     requires { ⌜ rank < length (now run) ⌝ }
     ensures { λ _. ⌜ Put (settings (now (parents .entry)) size couple (rank + 1)) (rank + 1) (now (run .entry)) (now (run .exit)) ⌝ }
 {
@@ -262,17 +258,4 @@ fn write_run(parents: &[u16], size: usize, couple: usize, rank: usize, run: &mut
         run[left] = byte(c % size);
         c = long(parents[c]);
     }
-}
-
-fn long(x: u16) -> usize
-    ensures { λ r. ⌜ (r ≡ x) × (r ≤ unmarked) ⌝ }
-{
-    x as usize
-}
-
-fn byte(x: usize) -> u8
-    requires { ⌜ x < 256 ⌝ }
-    ensures { λ r. ⌜ r ≡ x ⌝ }
-{
-    x as u8
 }

@@ -1,4 +1,3 @@
-pub mod Faults
 pub mod Writing
 pub mod Outcomes
 pub mod Once

@@ -8,7 +8,7 @@ use Rattle.verdict.proofs.Fills.{written-unique}
 use Rattle.machine.specs.Runs.{Machine}
 use Rattle.readings.specs.Expected.{ExpectedDone, ExpectedAs}
 
-done-only : {run : List ℕ} (a b : Answer) → ExpectedDone run a → ExpectedDone run b → a ≡ b
+pub done-only : {run : List ℕ} (a b : Answer) → ExpectedDone run a → ExpectedDone run b → a ≡ b
 done-only a b p q = same-answer a b (p .number ∙ sym (q .number)) (p .place ∙ sym (q .place))
 
 pub only : {m : Machine} {words run readings₀ : List ℕ} {a b : Answer} {x y : List ℕ} → ExpectedAs m words run readings₀ a x → ExpectedAs m words run readings₀ b y → (a ≡ b) × (x ≡ y)

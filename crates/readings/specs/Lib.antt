@@ -1,2 +1,2 @@
 pub mod Expected
-pub mod Walking
+pub mod inner

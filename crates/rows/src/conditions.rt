@@ -15,6 +15,15 @@ pub(crate) fn unread() {
     end();
 }
 
+// `i` with n = 9, `a` with n = 0: a letter is below n and one of a to h.
+pub(crate) fn letters() {
+    name(b"letters");
+    reading(b"h", 9);
+    reading(b"i", 9);
+    reading(b"a", 0);
+    end();
+}
+
 // 8 and 9 nested parentheses.
 pub(crate) fn parentheses() {
     name(b"parentheses");

@@ -9,11 +9,11 @@ use crate::lines::name;
 use crate::lines::number;
 use crate::lines::values;
 use crate::lines::word;
+use basics::wide;
 use specification::Contents;
-use tables::wide;
 
 // The bytes of the lamp's file.
-const LAMP: usize = 47;
+pub(crate) const LAMP: usize = 47;
 
 // The lamp and the gate, and the shortest file that reads: one state, at rest at `1`.
 pub(crate) fn whole() {
@@ -173,11 +173,12 @@ fn lent(what: &[u8], file: &[u8], table: &mut [u8], words: &mut [u16]) {
 
 // The answer, and the sizes.
 pub(crate) fn told(contents: Contents) {
+    let frame = contents.frame;
     answer(contents.answer);
     word(b"|");
-    number(contents.inputs as u64);
+    number(frame.inputs as u64);
     number(contents.outputs as u64);
-    number(contents.states as u64);
-    number(contents.initial as u64);
+    number(frame.states as u64);
+    number(frame.initial as u64);
     number(contents.evolutions as u64);
 }

@@ -23,7 +23,7 @@ pub(crate) fn end() {
 // The number and the place of an answer, behind a bar.
 pub(crate) fn answer(a: Answer) {
     word(b"|");
-    byte(a.number);
+    number(a.number as u64);
     number(a.place as u64);
 }
 

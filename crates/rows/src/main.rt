@@ -1,6 +1,7 @@
 // The example rows of document 01 that are not starred, the tables that were published, and files of each refusal, one line a row: a
 // short name of the row, then its numbers.
 mod conditions;
+mod evolutions;
 mod lamps;
 mod limits;
 mod lines;
@@ -10,8 +11,10 @@ mod runs;
 
 fn main() {
     conditions::unread();
+    conditions::letters();
     conditions::parentheses();
     files();
+    evolutions::rows();
     log::rows();
     ranks::gate();
     ranks::table_iv();

@@ -8,7 +8,25 @@ use crate::lines::name;
 use crate::lines::number;
 use crate::lines::values;
 use crate::lines::word;
+use machine::Frame;
 use machine::UNMARKED;
+
+// The lamp's sizes with an initial state, and the gate's.
+pub(crate) fn lamp_frame(initial: usize) -> Frame {
+    Frame {
+        inputs: 1,
+        states: 2,
+        initial: initial,
+    }
+}
+
+pub(crate) fn gate_frame() -> Frame {
+    Frame {
+        inputs: 4,
+        states: 3,
+        initial: 0,
+    }
+}
 
 // The moves of the gate: source document 002, table 1.
 pub(crate) fn gate_table() -> [u8; 48]
@@ -21,7 +39,7 @@ pub(crate) fn gate_table() -> [u8; 48]
 pub(crate) fn gate() {
     let table = gate_table();
     let mut ranks = [7u16; 48];
-    let marked = marking::mark(4, 3, 0, &table, &mut ranks);
+    let marked = marking::mark(gate_frame(), &table, &mut ranks);
     name(b"gate");
     answer(marked);
     end();
@@ -43,7 +61,12 @@ fn table_iv_table() -> [u8; 40]
 pub(crate) fn table_iv() {
     let table = table_iv_table();
     let mut ranks = [7u16; 40];
-    let marked = marking::mark(3, 5, 0, &table, &mut ranks);
+    let frame = Frame {
+        inputs: 3,
+        states: 5,
+        initial: 0,
+    };
+    let marked = marking::mark(frame, &table, &mut ranks);
     name(b"table IV");
     answer(marked);
     end();
@@ -73,7 +96,7 @@ pub(crate) fn refusals() {
 
 fn refused(what: &[u8], initial: usize, table: &[u8]) {
     let mut ranks = [7u16; 5];
-    let marked = marking::mark(1, 2, initial, table, &mut ranks);
+    let marked = marking::mark(lamp_frame(initial), table, &mut ranks);
     name(what);
     answer(marked);
     values(&ranks);

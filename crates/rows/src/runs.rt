@@ -4,7 +4,9 @@ use crate::lines::bytes;
 use crate::lines::end;
 use crate::lines::name;
 use crate::lines::values;
+use crate::ranks::gate_frame;
 use crate::ranks::gate_table;
+use crate::ranks::lamp_frame;
 
 // The plan of the lamp where it fits, and one byte short.
 pub(crate) fn lamp_plan() {
@@ -16,7 +18,7 @@ pub(crate) fn lamp_plan() {
 
 fn plan_of_lamp(what: &[u8], room: &mut [u8]) {
     let mut ranks = [7u16; 5];
-    let planned = plan::plan(1, 2, 0, b"\x00\x01\x00\x01", &mut ranks, room);
+    let planned = plan::plan(lamp_frame(0), b"\x00\x01\x00\x01", &mut ranks, room);
     name(what);
     answer(planned);
     values(&ranks);
@@ -39,7 +41,7 @@ pub(crate) fn gate_runs() {
 fn run_to(what: &[u8], couple: usize, room: &mut [u8]) {
     let table = gate_table();
     let mut ranks = [7u16; 48];
-    let told = plan::run_to(4, 3, 0, &table, &mut ranks, couple, room);
+    let told = plan::run_to(gate_frame(), &table, &mut ranks, couple, room);
     name(what);
     answer(told);
     bytes(room);
@@ -59,7 +61,13 @@ pub(crate) fn expected_readings() {
 fn of_lamp(what: &[u8], run: &[u8]) {
     let words = [0u16, 1];
     let mut readings = [7u16; 6];
-    let told = readings::expected(1, 2, 0, b"\x00\x01\x00\x01", &words, run, &mut readings);
+    let told = readings::expected(
+        lamp_frame(0),
+        b"\x00\x01\x00\x01",
+        &words,
+        run,
+        &mut readings,
+    );
     name(what);
     answer(told);
     values(&readings);
@@ -70,7 +78,7 @@ fn of_gate(what: &[u8], run: &[u8]) {
     let table = gate_table();
     let words = [0u16, 1, 2];
     let mut readings = [7u16; 6];
-    let told = readings::expected(4, 3, 0, &table, &words, run, &mut readings);
+    let told = readings::expected(gate_frame(), &table, &words, run, &mut readings);
     name(what);
     answer(told);
     values(&readings);

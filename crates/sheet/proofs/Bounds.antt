@@ -6,7 +6,8 @@ use native.Mathlib.Omega.{arith}
 use lib.ListN.{length, take, drop, replicate, length-take, length-replicate}
 use Rattle.sheet.specs.declared.Input.{Input}
 use Rattle.sheet.specs.declared.Input.the-variants.{Bytes}
-use Rattle.sheet.specs.Steps.{Within, Prints}
+use Rattle.sheet.specs.Printed.{Prints}
+use Rattle.sheet.specs.inner.Steps.{Within}
 use Rattle.show.proofs.Over.{length-over, told-all}
 
 pub bytes-within : {r : Input} {n : ℕ} (most : ℕ) → r ≡ Bytes n → Within r most → n ≤ most

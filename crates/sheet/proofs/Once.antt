@@ -1,24 +1,27 @@
 -- A file has one text: reading it has one answer, and where that is success one table, one list of ranks and one plan. So printing it
 -- leaves one count and one buffer.
-use mathlib.Core.Path.{_≡_, sym, ap, subst, _∙_}
+use mathlib.Core.Path.{_≡_, refl, sym, ap, subst, _∙_}
 use mathlib.Core.List.{List}
 use Prim.Native.Nat.{ℕ}
+use native.Mathlib.Nat.{le-refl}
 use Rattle.verdict.specs.declared.Answer.{Answer}
 use Rattle.verdict.proofs.Order.{judged-unique}
 use Rattle.show.specs.Sheet.{refusalText}
 use Rattle.show.specs.Written.{over, written}
 use Rattle.show.specs.declared.Written.the-variants.{All}
-use Rattle.sheet.specs.Printed.{machineOf, PlanText, SheetOf, refused, read}
-use Rattle.sheet.specs.Steps.{Prints}
-use Rattle.sheet.proofs.Files.{table-once, markable}
-use Rattle.sheet.proofs.Plans.{sound, text-once}
+use Rattle.machine.specs.Runs.{machineOf}
+use Rattle.specification.specs.Records.{sizesOf, frameOf}
+use Rattle.specification.proofs.Accepted.{table-once}
+use Rattle.sheet.specs.Printed.{PlanText, SheetOf, refused, read, Prints}
+use Rattle.sheet.proofs.Files.{planned}
+use Rattle.sheet.proofs.Plans.{text-once}
 
 pub sheet-once : {file t u : List ℕ} → SheetOf file t → SheetOf file u → t ≡ u
 sheet-once (refused v n) (refused w o) = ap (λ (a : Answer). refusalText (a .number) (a .place)) (judged-unique v w)
 sheet-once (refused v n) (read w u y) = absurd (n (ap (λ (a : Answer). a .number) (judged-unique v w)))
 sheet-once (read v t x) (refused w o) = absurd (o (ap (λ (a : Answer). a .number) (judged-unique w v)))
 sheet-once {file} (read v t x) (read {text = text} w u y) =
-    text-once (sound (markable v t)) x (subst (λ table. PlanText (machineOf file table) text) (table-once v u t) y)
+    text-once (planned v t (le-refl _) .checked .sound) x (subst (λ table. PlanText (machineOf (frameOf (sizesOf file)) table) text) (table-once v refl u t) y)
 
 pub only : {file : List ℕ} {n k : ℕ} {before a b : List ℕ} → Prints (SheetOf file) n before a → Prints (SheetOf file) k before b → (n ≡ k) × (a ≡ b)
 only {n = n} {k = k} {before} x y =

@@ -1,33 +1,30 @@
 -- What planning a machine that marking does not refuse answers is what is printed for it: its sheet, or refusal 16. The checks of
 -- marking pass, so only 16 can refuse; the ranks and the bytes are the fronts of the buffers. And the text is one.
-use mathlib.Core.Path.{_≡_, refl, sym, ap, ap₂, subst, _∙_}
+use mathlib.Core.Path.{_≡_, refl, sym, ap, ap₂, subst, subst₂, _∙_}
 use mathlib.Core.Logic.{inl}
-use mathlib.Core.List.{List, [], _∷_, _++_}
+use mathlib.Core.List.{List, [], _∷_}
 use Prim.Native.Nat.{ℕ, _-_, _≤_, _<_}
 use native.Mathlib.Omega.{arith}
 use lib.ListN.{length, take, length-take}
 use lib.Seq.{ext-getD, getD-take, length-take-le}
-use Rattle.verdict.specs.Checks.{Check, check, Then, refused, next, Verdict}
+use Rattle.verdict.specs.Checks.{check, Then, refused, next, Judged}
 use Rattle.verdict.specs.declared.Answer.{Answer}
-use Rattle.verdict.proofs.Order.{Passes, judged-passes}
+use Rattle.verdict.proofs.Order.{Passes, judged-rest, long as room-for}
+use Rattle.verdict.proofs.Tests.{meets}
 use Rattle.machine.specs.Limits.{mostCouples}
-use Rattle.machine.specs.Runs.{Machine, machine, couples, Sound, RankOrUnmarked}
+use Rattle.machine.specs.Runs.{Machine, couples, Sound, RankOrUnmarked, RanksOf}
+use Rattle.machine.proofs.Soundness.{sound-states, sound-calm}
+use Rattle.tables.specs.Tables.{Tabled}
+use Rattle.tables.proofs.Gate.{couples-few}
 use Rattle.marking.specs.Marking.{markChecks}
 use Rattle.marking.proofs.Once.{rank-only}
-use Rattle.plan.specs.Planning.{PlanBytes, ShortPlan, PlanDone, PlannedAs}
-use Rattle.plan.proofs.Marked.{sized, sound as sound-of, ranks-long}
+use Rattle.plan.specs.Planning.{PlanBytes, ShortPlan, planChecks, PlanDone, PlannedAs}
 use Rattle.plan.proofs.Outcomes.{bytes-unique}
 use Rattle.plan.proofs.Held.{plan-held}
 use Rattle.show.specs.Sheet.{sheetText, refusalText}
-use Rattle.sheet.specs.Printed.{planRoom, RanksOf, PlanText, sheet, long}
-use Rattle.sheet.specs.Steps.{Markable, Ready}
+use Rattle.sheet.specs.Printed.{planRoom, PlanText, sheet, long}
+use Rattle.sheet.specs.inner.Steps.{Ready}
 use Rattle.sheet.proofs.Rooms.{sheet-fits}
-
--- checks that pass leave the verdict to those behind them
-onward : (cs ds : List Check) (done : Answer → Type 0) (a : Answer) → Passes cs → Verdict (cs ++ ds) done a → Verdict ds done a
-onward [] ds done a p v = v
-onward (c ∷ cs) ds done a p (refused l n) = absurd (p .0 .nowhere _ (l .here))
-onward (c ∷ cs) ds done a p (next n v) = onward cs ds done a (p .1) v
 
 -- the ranks are one
 pub ranks-once : {m : Machine} {r s : List ℕ} → RanksOf m r → RanksOf m s → r ≡ s
@@ -41,26 +38,24 @@ text-once ok (sheet r b l) (long (w, d, k)) = let e = ap length (bytes-unique ok
 text-once ok (long (w, d, k)) (sheet r b l) = let e = ap length (bytes-unique ok b d) in let h = k .1 in absurd (omega arith)
 text-once ok (long (w, d, k)) (long (u, b, l)) = ap (refusalText 16) (k .0 ∙ ap length (bytes-unique ok d b) ∙ sym (l .0))
 
--- a machine that marking does not refuse is sound
-module _ {inputs states initial : ℕ} {T : List ℕ} (k : Markable (machine inputs states initial T)) where
-  passed : Passes (markChecks (machine inputs states initial T) mostCouples)
-  passed = judged-passes 13 (k .verdict) (omega arith) refl
-
-  pub sound : Sound (machine inputs states initial T)
-  sound = sound-of inputs states initial T passed
-
-module _ {inputs states initial room : ℕ} {T : List ℕ} (y : Ready (machine inputs states initial T) room)
-    {ranks₀ plan₀ ranks₁ plan₁ : List ℕ} {a : Answer} (p : PlannedAs (machine inputs states initial T) ranks₀ plan₀ a ranks₁ plan₁)
+module _ {m : Machine} {room : ℕ} (y : Ready m room) {ranks₀ plan₀ ranks₁ plan₁ : List ℕ} {a : Answer} (p : PlannedAs m ranks₀ plan₀ a ranks₁ plan₁)
     (ranks-lent : length ranks₀ ≡ mostCouples) (plan-lent : length plan₀ ≡ planRoom) where
-  abbrev m : Machine
-  m = machine inputs states initial T
+  tabled : Tabled m
+  tabled = y .checked .tabled
+
+  ok : Sound m
+  ok = y .checked .sound
+
+  passed : Passes (markChecks m mostCouples)
+  passed =
+      (meets (tabled .sized), (room-for (tabled .long), (room-for (couples-few (tabled .sized)), (sound-states ok, (sound-calm ok, (record { nowhere = λ q f. y .started (f .1) }, tt))))))
 
   verdict : Then (ShortPlan m planRoom) 16 (PlanDone m a) a
-  verdict = onward (markChecks m mostCouples) (check 16 (ShortPlan m planRoom) ∷ []) (PlanDone m) a (passed (y .markable))
-      (rw (ranks-lent, plan-lent) at (p .verdict .verdict))
+  verdict = judged-rest (markChecks m mostCouples) {ds = check 16 (ShortPlan m planRoom) ∷ []} passed
+      (subst₂ (λ (r k : ℕ). Judged (planChecks m r k) (PlanDone m) a) ranks-lent plan-lent (p .verdict)) .verdict
 
   -- only 16 refuses it
-  pub plan-refused : (a .number ≡ 0 → ⊥) → PlanText (machine inputs states initial T) (refusalText (a .number) (a .place))
+  pub plan-refused : (a .number ≡ 0 → ⊥) → PlanText m (refusalText (a .number) (a .place))
   plan-refused n = by verdict
     where
       by : Then (ShortPlan m planRoom) 16 (PlanDone m a) a → PlanText m (refusalText (a .number) (a .place))
@@ -69,13 +64,13 @@ module _ {inputs states initial room : ℕ} {T : List ℕ} (y : Ready (machine i
 
   module _ (e : a .number ≡ 0) where
     -- the ranks fill the front of their buffer, as long as the table
-    pub ranks-reach : length T ≤ length ranks₁
-    ranks-reach = omega (arith, y .exact, ranks-long inputs states initial T (passed (y .markable)), p .ranks .filled (inl e) .same-length)
+    pub ranks-reach : length (m .table) ≤ length ranks₁
+    ranks-reach = omega (arith, y .exact, couples-few (tabled .sized), p .ranks .filled (inl e) .same-length)
 
-    ranks-front : RanksOf m (take (length T - 0) ranks₁)
+    ranks-front : RanksOf m (take (length (m .table) - 0) ranks₁)
     ranks-front = record {
-      whole = length-take-le (length T - 0) ranks₁ (omega (arith, ranks-reach)) ∙ omega (arith, y .exact);
-      each = λ c h. subst (RankOrUnmarked m c) (sym (getD-take (length T - 0) ranks₁ c 0 (omega (arith, y .exact)))) (p .ranks .filled (inl e) .needed c h);
+      whole = length-take-le (length (m .table) - 0) ranks₁ (omega (arith, ranks-reach)) ∙ omega (arith, y .exact);
+      each = λ c h. subst (RankOrUnmarked m c) (sym (getD-take (length (m .table) - 0) ranks₁ c 0 (omega (arith, y .exact)))) (p .ranks .filled (inl e) .needed c h);
     }
 
     -- and the plan that of its own
@@ -87,23 +82,23 @@ module _ {inputs states initial room : ℕ} {T : List ℕ} (y : Ready (machine i
         by (next o d) =
             let g : planRoom < length (d .bytes) → ⊥ = λ h. o .nowhere _ (d .bytes, d .planned, (refl, h)) in (
               omega (arith, d .place),
-              ap length (bytes-unique (sound (y .markable)) (plan-held inputs states initial T p e) (d .planned)) ∙ sym (d .place),
+              ap length (bytes-unique ok (plan-held p e) (d .planned)) ∙ sym (d .place),
             )
 
     pub plan-reach : a .place ≤ length plan₁
     plan-reach = omega (arith, done .1, length-take (a .place) plan₁)
 
     bytes-front : PlanBytes m (take (a .place - 0) plan₁)
-    bytes-front = let n : a .place ≡ a .place - 0 = omega arith in subst (λ k. PlanBytes m (take k plan₁)) n (plan-held inputs states initial T p e)
+    bytes-front = let n : a .place ≡ a .place - 0 = omega arith in subst (λ k. PlanBytes m (take k plan₁)) n (plan-held p e)
 
     few : length (take (a .place - 0) plan₁) ≤ planRoom
     few = omega (arith, length-take (a .place - 0) plan₁, done .0)
 
     -- so the sheet is printed, and has room
-    pub plan-printed : PlanText (machine inputs states initial T) (sheetText inputs states (take (length T - 0) ranks₁) (take (a .place - 0) plan₁))
+    pub plan-printed : PlanText m (sheetText (m .inputs) (m .states) (take (length (m .table) - 0) ranks₁) (take (a .place - 0) plan₁))
     plan-printed = sheet ranks-front bytes-front few
 
-    pub plan-roomy : length (sheetText inputs states (take (length T - 0) ranks₁) (take (a .place - 0) plan₁)) ≤ room
+    pub plan-roomy : length (sheetText (m .inputs) (m .states) (take (length (m .table) - 0) ranks₁) (take (a .place - 0) plan₁)) ≤ room
     plan-roomy =
-        let z = sized inputs states initial T (passed (y .markable)) in
-        omega (arith, y .roomy, sheet-fits (sound (y .markable)) (z .few-inputs) (z .few-states) ranks-front bytes-front few)
+        let z = tabled .sized in
+        omega (arith, y .roomy, sheet-fits ok (z .few-inputs) (z .few-states) ranks-front bytes-front few)

@@ -8,7 +8,7 @@ use native.Mathlib.Omega.{arith}
 use lib.ListN.{length}
 use Rattle.machine.specs.Limits.{mostInputs, mostStates, mostCouples}
 use Rattle.machine.specs.Lists.{In}
-use Rattle.machine.specs.Runs.{Machine, couples, Sound}
+use Rattle.machine.specs.Runs.{Machine, couples, Sound, RanksOf}
 use Rattle.machine.specs.Plans.{Plan, empty, pass, add, storedRun, stored}
 use Rattle.machine.proofs.Couples.{settings-bound, couples-bound}
 use Rattle.machine.proofs.Members.{in-either}
@@ -22,8 +22,8 @@ use Rattle.show.specs.declared.Written.{Written}
 use Rattle.show.specs.declared.Written.the-variants.{All}
 use Rattle.show.proofs.Over.{written-fits}
 use Rattle.show.proofs.Room.{Bytes, sheet-room, ranks-low, refusal-room}
-use Rattle.sheet.specs.Printed.{planRoom, RanksOf}
-use Rattle.sheet.specs.Steps.{textRoom, Whole}
+use Rattle.sheet.specs.Printed.{planRoom, textRoom}
+use Rattle.sheet.specs.inner.Steps.{Whole}
 
 -- bytes of settings, and of stored runs
 bytes-of : (vs : List ℕ) → ((w : ℕ) → In w vs → w < 256) → Bytes vs
@@ -67,7 +67,7 @@ module _ {m : Machine} (ok : Sound m) where
           sheet-room (m .inputs) (m .states) ranks bytes (omega arith) (omega arith) (omega (arith, few, r .whole)) (omega (arith, r .whole)) (omega arith) (plan-bytes b),
         )
 
-pub refusal-fits : (number place : ℕ) → number < 256 → place < 2 ^ 64 → length (refusalText number place) ≤ textRoom
+pub refusal-fits : (number place : ℕ) → number < 2 ^ 64 → place < 2 ^ 64 → length (refusalText number place) ≤ textRoom
 refusal-fits number place n p = omega (arith, refusal-room number place (omega arith) (omega arith))
 
 -- a text that has room is written whole

@@ -2,6 +2,7 @@
 use libc::STDIN_FILENO;
 use libc::STDOUT_FILENO;
 use machine::COUPLES;
+use machine::Frame;
 use machine::STATES;
 use plan::plan;
 use show::Written;
@@ -12,12 +13,12 @@ use verdict::Answer;
 ghost use mathlib.Core.Path.{_≡_};
 ghost use Prim.Native.Nat.{_≤_};
 ghost use lib.ListN.{length};
-ghost use Rattle.machine.specs.Runs.{machine};
+ghost use Rattle.machine.specs.Runs.{machineOf};
 ghost use Rattle.show.specs.declared.Written.the-variants.{All};
 ghost use Rattle.show.specs.Sheet.{refusalText};
 ghost use Rattle.show.specs.Written.{Writes};
-ghost use Rattle.sheet.specs.Printed.{SheetOf, PlanText};
-ghost use Rattle.sheet.specs.Steps.{Within, Whole, textRoom, Ready, Prints};
+ghost use Rattle.sheet.specs.Printed.{textRoom, SheetOf, PlanText, Prints};
+ghost use Rattle.sheet.specs.inner.Steps.{Within, Whole, Ready};
 
 // One byte more than a file may have, so that a longer one is noticed.
 const FILE: usize = specification::BYTES + 1;
@@ -86,30 +87,31 @@ fn write_sheet(file: &[u8], text: &mut [u8]) -> usize
     if answer.number != 0 {
         return write_refusal(answer, text);
     }
-    let couples = contents.states * tables::settings(contents.inputs);
-    write_plan(
-        contents.inputs,
-        contents.states,
-        contents.initial,
-        &table[0..couples],
-        text,
-    )
+    let frame = contents.frame;
+    let couples = frame.states * tables::settings(frame.inputs);
+    write_plan(frame, &table[0..couples], text)
 }
 
 // Writes the text that is printed for a machine, and answers how many bytes it has.
-fn write_plan(inputs: usize, states: usize, initial: usize, table: &[u8], text: &mut [u8]) -> usize
-    requires { ⌜ Ready (machine inputs states initial (now table)) (length (now text)) ⌝ }
-    ensures { λ r. ⌜ Prints (PlanText (machine inputs states initial (now (table .entry)))) r (now (text .entry)) (now (text .exit)) ⌝ }
+fn write_plan(frame: Frame, table: &[u8], text: &mut [u8]) -> usize
+    requires { ⌜ Ready (machineOf frame (now table)) (length (now text)) ⌝ }
+    ensures { λ r. ⌜ Prints (PlanText (machineOf frame (now (table .entry)))) r (now (text .entry)) (now (text .exit)) ⌝ }
 {
     let mut ranks = [0u16; COUPLES];
     let mut runs = [0u8; PLAN];
-    let answer = plan(inputs, states, initial, table, &mut ranks, &mut runs);
+    let answer = plan(frame, table, &mut ranks, &mut runs);
     if answer.number != 0 {
         return write_refusal(answer, text);
     }
     let couples = table.len();
     let end = answer.place;
-    whole(sheet(inputs, states, &ranks[0..couples], &runs[0..end], text))
+    whole(sheet(
+        frame.inputs,
+        frame.states,
+        &ranks[0..couples],
+        &runs[0..end],
+        text,
+    ))
 }
 
 // Writes the line of a refusal, and answers how many bytes it has.
@@ -117,7 +119,7 @@ fn write_refusal(answer: Answer, text: &mut [u8]) -> usize
     requires { ⌜ textRoom ≤ length (now text) ⌝ }
     ensures { λ r. ⌜ Writes (refusalText (answer .number) (answer .place)) (All r) (now (text .entry)) (now (text .exit)) ⌝ }
 {
-    whole(refusal(answer.number as usize, answer.place, text))
+    whole(refusal(answer.number, answer.place, text))
 }
 
 // How many bytes a text has that was written whole.

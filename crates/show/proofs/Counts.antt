@@ -1,18 +1,17 @@
--- Counts of ranks: of no couple, of one couple more, those of the marked couples, and the lines of equal counts.
--- By induction on the couples, and on the ranks.
-use mathlib.Core.Path.{_≡_, refl, sym, ap, ap₂, _∙_}
+-- Counts of ranks: of no couple, of one couple more, and those of the marked couples. By induction on the couples.
+use mathlib.Core.Path.{_≡_, refl, sym, _∙_}
 use mathlib.Core.Bool.{Bool, true, false, cond}
-use mathlib.Core.List.{List, [], _∷_, _++_}
-use Prim.Native.Nat.{ℕ, zero, suc, _+_, _-_, _≤_, _<_}
+use mathlib.Core.List.{List, [], _∷_}
+use Prim.Native.Nat.{ℕ, suc, _+_, _-_, _≤_, _<_}
 use native.Mathlib.Numerals.{add-one}
 use native.Mathlib.Omega.{arith}
-use lib.Dec.{eqb, lit<}
+use lib.Dec.{eqb}
 use lib.ListN.{length, getD, set, replicate, length-set, length-replicate, getD-replicate}
 use lib.Seq.{getD-set-same, getD-set-other}
-use borrow.Author.Tests.{eqb-true, eqb-false, eq-eqb, ne-eqb}
+use borrow.Author.Tests.{eqb-true, eqb-false, ne-eqb}
 use Rattle.machine.specs.Limits.{unmarked}
-use Rattle.show.specs.Sheet.{countOf, markedIn, ranksIn, rankLine, rankLines}
-use Rattle.show.specs.Steps.{values, Counted}
+use Rattle.show.specs.Sheet.{countOf, markedIn}
+use Rattle.show.specs.inner.Steps.{Counted}
 
 pub count-fits : (r : ℕ) (ranks : List ℕ) → countOf r ranks ≤ length ranks
 count-fits r [] = omega arith
@@ -32,6 +31,9 @@ marked-rest (x ∷ ranks) = go (eqb x unmarked) (marked-rest ranks)
     go true h = omega arith
     go false h = omega arith
 
+pub marked-are : (ranks : List ℕ) {n : ℕ} → n ≡ countOf unmarked ranks → length ranks - n ≡ markedIn ranks
+marked-are ranks e = omega (arith, marked-rest ranks)
+
 pub counted-none : (n : ℕ) → Counted n [] (replicate n 0)
 counted-none n = record { whole = length-replicate {A = ℕ} n 0; each = λ r h. getD-replicate {A = ℕ} n r 0 0 h }
 
@@ -48,22 +50,6 @@ counted-more {n} {ranks} {counts} x l k =
         rw (e, ← s, getD-set-same counts x (getD counts x 0 + 1) 0 (omega (arith, k .whole)), k .each x l) (add-one (countOf x ranks))
     go r h false e = rw (e, getD-set-other counts x r (getD counts x 0 + 1) 0 (λ s. eqb-false x r e (sym s))) (k .each r h)
 
--- one rank more
-pub rank-lines-more : (count : ℕ → ℕ) (r : ℕ) → rankLines count (r + 1) ≡ rankLines count r ++ rankLine r (count r)
-rank-lines-more count r = rw add-one
-
--- equal counts have equal lines
-pub rank-lines-same : (f g : ℕ → ℕ) (n : ℕ) → ((r : ℕ) → r < n → f r ≡ g r) → rankLines f n ≡ rankLines g n
-rank-lines-same f g zero h = refl
-rank-lines-same f g (suc n) h =
-    ap₂ (λ (a b : List ℕ). a ++ b) (rank-lines-same f g n (λ r l. h r (omega arith))) (ap (rankLine n) (h n (omega arith)))
-
--- what the counts of all ranks tell: the marked couples, and the lines of the ranks
-pub marked-are : {ranks counts : List ℕ} {last : ℕ} → Counted values ranks counts → last ≡ unmarked → length ranks - getD counts last 0 ≡ markedIn ranks
-marked-are {ranks} k e = rw e (omega (arith, k .each unmarked (lit< tt), marked-rest ranks))
-
-pub lines-are : {ranks counts : List ℕ} {levels : ℕ} → Counted values ranks counts → (levels ≡ ranksIn ranks) × (levels < values)
-    → rankLines (λ r. getD counts r 0) levels ≡ rankLines (λ r. countOf r ranks) (ranksIn ranks)
-lines-are {ranks} {counts} {levels} k e =
-    rank-lines-same (λ r. getD counts r 0) (λ r. countOf r ranks) levels (λ r l. k .each r (omega arith))
-    ∙ ap (rankLines (λ r. countOf r ranks)) (e .0)
+-- a rank that the counts do not reach
+pub counted-past : {n : ℕ} {ranks counts : List ℕ} (x : ℕ) → n ≤ x → Counted n ranks counts → Counted n (x ∷ ranks) counts
+counted-past x l k = record { whole = k .whole; each = λ r h. rw (ne-eqb x r (λ e. omega arith)) (k .each r h) }

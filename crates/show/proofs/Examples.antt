@@ -2,8 +2,9 @@
 use mathlib.Core.Path.{_≡_, refl}
 use mathlib.Core.List.{List, [], _∷_, _++_}
 use Prim.Native.Nat.{ℕ}
+use Rattle.basics.specs.Texts.{letters}
 use Rattle.show.specs.Digits.{digitsUpTo, digits}
-use Rattle.show.specs.Sheet.{letters, firstLine, sheetText, refusalText}
+use Rattle.show.specs.Sheet.{firstLine, sheetText, refusalText}
 
 abbrev pub lampRanks : List ℕ
 lampRanks = 0 ∷ 1 ∷ 2 ∷ 1 ∷ []

@@ -5,5 +5,4 @@ pub mod Lists
 pub mod Only
 pub mod Over
 pub mod Room
-pub mod Runs
 pub mod Steps

@@ -2,12 +2,11 @@
 use mathlib.Core.Path.{_≡_, refl, ap}
 use mathlib.Core.Bool.{Bool, true, false, cond}
 use mathlib.Core.List.{List, [], _∷_, _++_}
-use Prim.Native.Nat.{ℕ, zero, suc, _+_, _≤_, _<_}
+use Prim.Native.Nat.{ℕ, suc, _+_, _≤_, _<_}
 use native.Mathlib.Omega.{arith}
 use lib.Dec.{leb}
-use lib.ListN.{length, set, drop, take}
+use lib.ListN.{length, set}
 use borrow.Author.Tests.{leb-true, leb-false, le-leb, lt-leb}
-use Rattle.show.specs.declared.Written.{Written}
 use Rattle.show.specs.declared.Written.the-variants.{All, Short}
 use Rattle.show.specs.Written.{over, written}
 
@@ -30,19 +29,6 @@ over-byte [] b [] h = absurd (omega arith)
 over-byte [] b (y ∷ out) h = refl
 over-byte (x ∷ text) b [] h = absurd (omega arith)
 over-byte (x ∷ text) b (y ∷ out) h = ap (λ (l : List ℕ). x ∷ l) (over-byte text b out (omega arith))
-
--- a text that fits stands whole, and behind it the rest of the buffer
-pub over-fits : (text out : List ℕ) → length text ≤ length out → over text out ≡ text ++ drop (length text) out
-over-fits [] out h = refl
-over-fits (x ∷ text) [] h = absurd (omega arith)
-over-fits (x ∷ text) (y ∷ out) h = ap (λ (l : List ℕ). x ∷ l) (over-fits text out (omega arith))
-
--- of a text that does not fit the front stands
-pub over-short : (text out : List ℕ) → length out ≤ length text → over text out ≡ take (length out) text
-over-short [] [] h = refl
-over-short [] (y ∷ out) h = absurd (omega arith)
-over-short (x ∷ text) [] h = refl
-over-short (x ∷ text) (y ∷ out) h = ap (λ (l : List ℕ). x ∷ l) (over-short text out (omega arith))
 
 pub written-fits : (text out : List ℕ) → length text ≤ length out → written text out ≡ All (length text)
 written-fits text out h = rw (le-leb _ _ h)

@@ -3,7 +3,7 @@
 -- The line of a refusal has at most 33 bytes. By induction on the ranks, on the settings and on the runs.
 use mathlib.Core.Path.{_≡_, refl, sym, ap, _∙_}
 use mathlib.Core.Bool.{Bool, true, false, cond}
-use mathlib.Core.List.{List, [], _∷_, _++_, map}
+use mathlib.Core.List.{List, [], _∷_, map}
 use mathlib.Core.Logic.{_⊎_, ⊎-elim}
 use Prim.Native.Nat.{ℕ, zero, suc, _+_, _*_, _/_, _^_, _≤_, _<_, zero-le, max}
 use native.Mathlib.Nat.{pow-succ'}
@@ -36,18 +36,6 @@ room-up : (k : ℕ) → Room (10 ^ suc k) (suc k)
 room-up zero = room-one
 room-up (suc k) = rw pow-succ' (room-more (10 ^ suc k) (suc k) (omega arith) (room-up k))
 
-room-two : Room 100 2
-room-two = room-up 1
-
-room-three : Room 1000 3
-room-three = room-up 2
-
-room-five : Room 100000 5
-room-five = room-up 4
-
-room-twenty : Room (10 ^ 20) 20
-room-twenty = room-up 19
-
 -- every element is a byte
 abbrev pub Bytes : List ℕ → Type 0
 Bytes [] = Unit {0}
@@ -65,7 +53,7 @@ bytes-drop (suc n) (x ∷ l) h = bytes-drop n l (h .1)
 
 settings-room : (l : List ℕ) → Bytes l → length (fieldsBehind (map digits l)) ≤ 4 * length l + 1
 settings-room [] h = omega arith
-settings-room (x ∷ l) h = simp length-append (omega (arith, room-three x (omega (arith, h .0)), settings-room l (h .1)))
+settings-room (x ∷ l) h = simp length-append (omega (arith, room-up 2 x (omega (arith, h .0)), settings-room l (h .1)))
 
 runs-room : (f k : ℕ) (bs : List ℕ) → k + length bs < 100000 → Bytes bs → length (runLines k (split f bs)) ≤ 5 * length bs
 runs-room zero k bs h b = omega arith
@@ -76,17 +64,17 @@ runs-room (suc f) k (low ∷ high ∷ bs) h b =
     let cut : length (take n bs) + length (drop n bs) ≡ length bs = sym (length-append (take n bs) (drop n bs)) ∙ ap length (take-append-drop n bs) in
     let settings = settings-room (take n bs) (bytes-take n bs (b .1 .1)) in
     let others = runs-room f (suc k) (drop n bs) (omega arith) (bytes-drop n bs (b .1 .1)) in
-    simp length-append (omega (arith, room-five k (omega arith)))
+    simp length-append (omega (arith, room-up 4 k (omega arith)))
 
 ranks-room : (count : ℕ → ℕ) (n : ℕ) → n < 100000 → ((r : ℕ) → count r < 100000) → length (rankLines count n) ≤ 17 * n
 ranks-room count zero h c = omega arith
 ranks-room count (suc n) h c =
-    simp length-append (omega (arith, room-five n (omega arith), room-five (count n) (c n), ranks-room count n (omega arith) c))
+    simp length-append (omega (arith, room-up 4 n (omega arith), room-up 4 (count n) (c n), ranks-room count n (omega arith) c))
 
 first-room : (inputs states couples marked : ℕ) → inputs < 10 → states < 100 → couples < 100000 → marked < 100000 → length (firstLine inputs states couples marked) ≤ 46
 unfolding firstLine
 first-room inputs states couples marked i s c m =
-    simp length-append (omega (arith, room-one inputs i, room-two states s, room-five couples c, room-five marked m))
+    simp length-append (omega (arith, room-one inputs i, room-up 1 states s, room-up 4 couples c, room-up 4 marked m))
 
 -- every sheet has room in so many bytes, where no rank is as high as the number of couples
 pub sheet-room : (inputs states : ℕ) (ranks plan : List ℕ) → inputs < 10 → states < 100 → length ranks < 100000 → ranksIn ranks ≤ length ranks
@@ -108,6 +96,6 @@ ranks-low t (x ∷ ranks) h =
     below true rest l = rest
     below false rest l = omega arith
 
--- the line of a refusal is short: a number has at most 3 digits, and a place at most 20
-pub refusal-room : (number place : ℕ) → number < 1000 → place < 10 ^ 20 → length (refusalText number place) ≤ 33
-refusal-room number place n p = simp length-append (omega (arith, room-three number n, room-twenty place p))
+-- the line of a refusal is short: a number and a place have at most 20 digits
+pub refusal-room : (number place : ℕ) → number < 10 ^ 20 → place < 10 ^ 20 → length (refusalText number place) ≤ 50
+refusal-room number place n p = simp length-append (omega (arith, room-up 19 number n, room-up 19 place p))

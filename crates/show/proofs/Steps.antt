@@ -6,36 +6,30 @@ use native.Mathlib.Omega.{arith}
 use lib.ListN.{length, set, length-append, length-set}
 use Rattle.show.specs.declared.Written.{Written}
 use Rattle.show.specs.declared.Written.the-variants.{All, Short}
-use Rattle.show.specs.Written.{over, written, Writes}
-use Rattle.show.specs.Steps.{Adds}
+use Rattle.show.specs.Written.{Writes}
+use Rattle.show.specs.inner.Steps.{Adds}
 use Rattle.show.proofs.Over.{length-over, over-full, over-byte, written-fits, written-short, told-all, told-short}
 
--- a buffer that was short stays as it is
-pub adds-short : (piece a : List ℕ) {s : Written} → s ≡ Short → Adds piece s Short a a
-adds-short piece a e =
+-- a piece that finds no room leaves the buffer as it is
+adds-full : (piece a : List ℕ) {s : Written} → ((text out : List ℕ) → Writes text s out a → (length out ≤ length text) × (length out < length text + length piece)) → Adds piece s Short a a
+adds-full piece a full =
     record {
       same-length = refl;
       behind = λ text out w.
-          let h = told-short text out (sym e ∙ w .answered) in
+          let h = full text out w in
           record {
             answered = sym (written-short (text ++ piece) out (simp length-append (omega arith)));
-            bytes = w .bytes ∙ sym (over-full text piece out (omega arith));
+            bytes = w .bytes ∙ sym (over-full text piece out (h .0));
           };
     }
 
--- a byte that no longer fits
+-- where the buffer was short before
+pub adds-short : (piece a : List ℕ) {s : Written} → s ≡ Short → Adds piece s Short a a
+adds-short piece a e = adds-full piece a (λ text out w. let h = told-short text out (sym e ∙ w .answered) in omega arith)
+
+-- where what is written fills it
 pub adds-past : (b n : ℕ) (a : List ℕ) {s : Written} → s ≡ All n → length a ≤ n → Adds (b ∷ []) s Short a a
-adds-past b n a e h =
-    record {
-      same-length = refl;
-      behind = λ text out w.
-          let f = told-all text out n (sym e ∙ w .answered) in
-          let l = ap length (w .bytes) ∙ length-over text out in
-          record {
-            answered = sym (written-short (text ++ (b ∷ [])) out (simp length-append (omega arith)));
-            bytes = w .bytes ∙ sym (over-full text (b ∷ []) out (omega arith));
-          };
-    }
+adds-past b n a e h = adds-full (b ∷ []) a (λ text out w. let f = told-all text out n (sym e ∙ w .answered) in omega (arith, length-over text out, ap length (w .bytes)))
 
 -- a byte that fits
 pub adds-byte : (b n : ℕ) (a : List ℕ) {s : Written} → s ≡ All n → n < length a → Adds (b ∷ []) s (All (n + 1)) a (set a n b)

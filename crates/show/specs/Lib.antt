@@ -1,4 +1,4 @@
 pub mod Digits
 pub mod Sheet
 pub mod Written
-pub mod Steps
+pub mod inner

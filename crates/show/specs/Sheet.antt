@@ -2,18 +2,12 @@
 use mathlib.Core.Bool.{cond}
 use mathlib.Core.List.{List, [], _∷_, _++_, map}
 use Prim.Native.Nat.{ℕ, zero, suc, max}
-use Prim.Native.Char.{code}
-use Prim.Native.String.{String}
 use lib.ListN.{length}
 use lib.Dec.{eqb}
+use Rattle.basics.specs.Texts.{letters}
 use Rattle.machine.specs.Limits.{unmarked}
 use Rattle.machine.specs.Plans.{runsIn}
 use Rattle.show.specs.Digits.{digits}
-
--- the bytes of a text in ASCII
-abbrev pub letters : String → List ℕ
-letters String.[] = []
-letters (String._∷_ c text) = code c ∷ letters text
 
 -- one blank parts fields, a line feed ends each line
 abbrev pub fieldsBehind : List (List ℕ) → List ℕ

@@ -3,18 +3,20 @@
 // A text is written piece by piece: each function takes what is written so far and answers what is written then. Where the buffer
 // ends, the front of the text stands in it and the rest is left out.
 ghost use mathlib.Core.Path.{_≡_};
-ghost use mathlib.Core.List.{List, _∷_, [], _++_, map};
-ghost use Prim.Native.Nat.{ℕ, _+_, _*_, _≤_, _<_};
-ghost use lib.ListN.{length, getD};
-ghost use Rattle.show.specs.Digits.{digits};
-ghost use Rattle.show.specs.Sheet.{letters, line, fieldsBehind, firstLine, rankLine, rankLines, runLine, runLines, ranksIn, sheetText, refusalText};
-ghost use Rattle.show.specs.Written.{Writes};
-ghost use Rattle.show.specs.Steps.{Adds, values, Counted, raised, NextRun};
+ghost use mathlib.Core.List.{_∷_, [], _++_, map};
+ghost use Prim.Native.Nat.{_+_, _<_};
+ghost use Rattle.basics.specs.Texts.{letters};
+ghost use Rattle.machine.specs.Limits.{mostCouples};
 ghost use Rattle.machine.specs.Plans.{runsIn};
+ghost use Rattle.show.specs.Digits.{digits};
+ghost use Rattle.show.specs.Sheet.{countOf, line, fieldsBehind, firstLine, rankLine, rankLines, runLine, runLines, ranksIn, sheetText, refusalText};
+ghost use Rattle.show.specs.Written.{Writes};
+ghost use Rattle.show.specs.inner.Steps.{Adds, Counted, raised};
+use basics::long;
+use machine::COUPLES;
 use machine::UNMARKED;
-
-// The values that a rank has.
-const VALUES: usize = UNMARKED as usize + 1;
+use runs::run_end;
+use runs::setting;
 
 // All bytes of a text stand at the front of the buffer, so many; or the buffer is short.
 pub enum Written {
@@ -26,11 +28,9 @@ pub enum Written {
 pub fn sheet(inputs: usize, states: usize, ranks: &[u16], plan: &[u8], out: &mut [u8]) -> Written
     ensures { λ r. ⌜ Writes (sheetText inputs states (now (ranks .entry)) (now (plan .entry))) r (now (out .entry)) (now (out .exit)) ⌝ }
 {
-    let counts = counts_of(ranks);
-    let unmarked = long(UNMARKED);
-    let marked = ranks.len() - counts[unmarked];
+    let marked = ranks.len() - couples_of(ranks, UNMARKED as usize);
     let of_head = first_line(inputs, states, ranks.len(), marked, Written::All(0), out);
-    let of_ranks = rank_lines(ranks_in(ranks), &counts, of_head, out);
+    let of_ranks = rank_lines(ranks, of_head, out);
     run_lines(plan, of_ranks, out)
 }
 
@@ -39,33 +39,6 @@ pub fn refusal(number: usize, place: usize, out: &mut [u8]) -> Written
     ensures { λ r. ⌜ Writes (refusalText number place) r (now (out .entry)) (now (out .exit)) ⌝ }
 {
     line_of_two(b"REFUSED", number, place, Written::All(0), out)
-}
-
-// How many couples have each rank.
-fn counts_of(ranks: &[u16]) -> [usize; VALUES]
-    ensures { λ r. ⌜ Counted values (now (ranks .entry)) r ⌝ }
-{
-    let mut counts = [0usize; VALUES];
-    let mut c = ranks.len();
-    while 0 < c {
-        c -= 1;
-        let rank = long(ranks[c]);
-        counts[rank] += 1;
-    }
-    counts
-}
-
-// How many ranks there are from 0 to the highest of a marked couple.
-fn ranks_in(ranks: &[u16]) -> usize
-    ensures { λ r. ⌜ (r ≡ ranksIn (now (ranks .entry))) × (r < values) ⌝ }
-{
-    let mut levels: usize = 0;
-    let mut c = ranks.len();
-    while 0 < c {
-        c -= 1;
-        levels = higher(levels, ranks[c]);
-    }
-    levels
 }
 
 // Writes inputs, states, couples and the number of marked couples.
@@ -86,18 +59,69 @@ fn first_line(
     byte(b'\n', of_marked, out)
 }
 
+// Writes a line for each rank from 0 to the highest. Ranks below COUPLES, which are all that a machine has, are counted in one pass.
+fn rank_lines(ranks: &[u16], done: Written, out: &mut [u8]) -> Written
+    ensures { λ r. ⌜ Adds (rankLines (λ k. countOf k (now (ranks .entry))) (ranksIn (now (ranks .entry)))) done r (now (out .entry)) (now (out .exit)) ⌝ }
+{
+    let mut counts = [0usize; COUPLES];
+    let mut levels: usize = 0;
+    let mut c = ranks.len();
+    while 0 < c {
+        c -= 1;
+        let rank = ranks[c];
+        levels = higher(levels, rank);
+        let at = long(rank);
+        if at < COUPLES {
+            counts[at] += 1;
+        }
+    }
+    lines_below(levels, ranks, &counts, done, out)
+}
+
 // Writes a line for each rank below levels.
-fn rank_lines(levels: usize, counts: &[usize], done: Written, out: &mut [u8]) -> Written
-    requires { ⌜ levels ≤ length (now counts) ⌝ }
-    ensures { λ r. ⌜ Adds (rankLines (λ k. getD (now (counts .entry)) k 0) levels) done r (now (out .entry)) (now (out .exit)) ⌝ }
+fn lines_below(
+    levels: usize,
+    ranks: &[u16],
+    counts: &[usize],
+    done: Written,
+    out: &mut [u8],
+) -> Written
+    requires { ⌜ Counted mostCouples (now ranks) (now counts) ⌝ }
+    ensures { λ r. ⌜ Adds (rankLines (λ k. countOf k (now (ranks .entry))) levels) done r (now (out .entry)) (now (out .exit)) ⌝ }
 {
     let mut written = done;
     let mut rank: usize = 0;
     while rank < levels {
-        written = rank_line(rank, counts[rank], written, out);
+        written = rank_line(rank, count_of(ranks, counts, rank), written, out);
         rank += 1;
     }
     written
+}
+
+// How many couples have a rank, from the counts where they reach.
+fn count_of(ranks: &[u16], counts: &[usize], rank: usize) -> usize
+    requires { ⌜ Counted mostCouples (now ranks) (now counts) ⌝ }
+    ensures { λ r. ⌜ r ≡ countOf rank (now (ranks .entry)) ⌝ }
+{
+    if rank < COUPLES {
+        return counts[rank];
+    }
+    couples_of(ranks, rank)
+}
+
+// How many couples have a rank.
+fn couples_of(ranks: &[u16], rank: usize) -> usize
+    ensures { λ r. ⌜ r ≡ countOf rank (now (ranks .entry)) ⌝ }
+{
+    let mut count: usize = 0;
+    let mut c = ranks.len();
+    while 0 < c {
+        c -= 1;
+        if long(ranks[c]) == rank {
+            count += 1;
+        }
+    }
+    count
 }
 
 // Writes a rank and its count of couples.
@@ -124,19 +148,6 @@ fn run_lines(plan: &[u8], done: Written, out: &mut [u8]) -> Written
     written
 }
 
-// Where the run whose count stands at a place ends, at the latest with the plan.
-fn run_end(plan: &[u8], at: usize) -> usize
-    requires { ⌜ at + 2 ≤ length (now plan) ⌝ }
-    ensures { λ r. ⌜ NextRun (now (plan .entry)) at r ⌝ }
-{
-    let settings = wide(plan[at + 1]) * 256 + wide(plan[at]);
-    let rest = plan.len() - (at + 2);
-    if rest < settings {
-        return plan.len();
-    }
-    at + 2 + settings
-}
-
 // Writes a run's number and its settings.
 fn run_line(number: usize, settings: &[u8], done: Written, out: &mut [u8]) -> Written
     ensures { λ r. ⌜ Adds (runLine number (now (settings .entry))) done r (now (out .entry)) (now (out .exit)) ⌝ }
@@ -152,7 +163,7 @@ fn fields(settings: &[u8], done: Written, out: &mut [u8]) -> Written
     let mut written = done;
     let mut i: usize = 0;
     while i < settings.len() {
-        written = field(wide(settings[i]), written, out);
+        written = field(setting(settings, i), written, out);
         i += 1;
     }
     byte(b'\n', written, out)
@@ -232,8 +243,7 @@ fn digit(d: usize) -> u8
 
 // How many ranks there are from 0 to the highest, with one couple's rank more.
 fn higher(levels: usize, rank: u16) -> usize
-    requires { ⌜ levels < values ⌝ }
-    ensures { λ r. ⌜ (r ≡ raised levels rank) × (r < values) ⌝ }
+    ensures { λ r. ⌜ r ≡ raised levels rank ⌝ }
 {
     if rank == UNMARKED {
         return levels;
@@ -243,16 +253,4 @@ fn higher(levels: usize, rank: u16) -> usize
         return levels;
     }
     marked + 1
-}
-
-fn wide(x: u8) -> usize
-    ensures { λ r. ⌜ (r ≡ x) × (r < 256) ⌝ }
-{
-    x as usize
-}
-
-fn long(x: u16) -> usize
-    ensures { λ r. ⌜ (r ≡ x) × (r < values) ⌝ }
-{
-    x as usize
 }

@@ -1,6 +1,6 @@
 -- What the conditions of records say, and the rules that hold: a text's answer decides whether it holds, because a text says one thing.
-use mathlib.Core.Path.{_≡_, refl, sym, ap, ap₂, subst, _∙_}
-use mathlib.Core.Bool.{Bool, true, false}
+use mathlib.Core.Path.{_≡_, refl, ap₂, subst}
+use mathlib.Core.Bool.{Bool, true}
 use mathlib.Core.List.{List}
 use Prim.Native.Nat.{ℕ, _+_, _-_, _≤_, _<_}
 use native.Mathlib.Omega.{arith}
@@ -13,23 +13,13 @@ use Rattle.condition.specs.declared.Meaning.the-variants.{Is, Unread}
 use Rattle.condition.proofs.Says.{value-says, says-reads, says-unread, only}
 use Rattle.verdict.specs.Checks.{Decides}
 use Rattle.verdict.proofs.Tests.{true≢false}
-use Rattle.specification.specs.Records.{source, target, textLength}
-use Rattle.specification.specs.Rules.{textAt, textOf, Holds, ruleOf, leadsTo}
+use Rattle.specification.specs.Records.{source, target}
+use Rattle.specification.specs.Rules.{Holds, ruleOf, leadsTo}
 use Rattle.specification.specs.declared.records.Sizes.{Sizes}
 
--- the part of the file from `at` to `end`
-pub part-is : (file : List ℕ) (z : Sizes) (r at end : ℕ) → at ≡ textAt file z r → end ≡ at + textLength file z r → take (end - at) (drop at file) ≡ textOf file z r
-part-is file z r at end e f =
-    let l : end - at ≡ textLength file z r = omega arith in
-    ap₂ (λ (a k : ℕ). take k (drop a file)) e l
-
-value : Meaning → Bool
-value (Is b) = b
-value Unread = false
-
-is-same : (b d : Bool) → Is b ≡ Is d → b ≡ d
-unfolding value
-is-same b d e = ap value e
+-- k bytes of the file, from `at` on
+pub part-is : (file : List ℕ) {at a k n : ℕ} → at ≡ a → k ≡ n → take (at + k - at) (drop at file) ≡ take n (drop a file)
+part-is file {at} {k = k} {n} e f = let l : at + k - at ≡ n = omega arith in ap₂ (λ (a k : ℕ). take k (drop a file)) e l
 
 module _ {n v : ℕ} {w : List ℕ} {m : Meaning} (s : Says n v w m) where
   pub told-reads : {b : Bool} → m ≡ Is b → Reads n w
@@ -43,8 +33,8 @@ module _ {n v : ℕ} {w : List ℕ} {m : Meaning} (s : Says n v w m) where
       let q = subst (Says n v w) e s in
       let x = q .value refl in
       record {
-        holds = λ t. record { reads = x .0; true-there = sym (is-same b (holds v (x .0 .tree)) (x .1)) ∙ t };
-        fails = λ t h. true≢false (sym (is-same b true (only n v w (Is b) (Is true) q (value-says (h .reads) (h .true-there)))) ∙ t);
+        holds = λ t. record { reads = x .0; true-there = cc (x .1) };
+        fails = λ t h. true≢false (cc (only n v w (Is b) (Is true) q (value-says (h .reads) (h .true-there))));
       }
 
 -- the rules, by their records

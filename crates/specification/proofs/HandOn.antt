@@ -2,7 +2,6 @@
 -- leaves is what each number says. By induction on how many records there are.
 use Prim.Native.Nat.{ℕ, zero, suc, _+_, _*_, _≤_, _<_}
 use native.Mathlib.Omega.{arith}
-use native.Mathlib.Decide.{decLt}
 use native.Mathlib.Numerals.{add-one}
 use mathlib.Core.Path.{_≡_, refl, sym, ap, ap₂, subst, _∙_}
 use mathlib.Core.Bool.{Bool, true, false}
@@ -11,9 +10,9 @@ use lib.ListN.{length, getD, drop, replicate, replicate-append-replicate}
 use Rattle.specification.specs.Records.{sumTo, recordAt, source, textLength, sizesOf}
 use Rattle.specification.specs.Rules.{textAt}
 use Rattle.specification.specs.Evolutions.{evolutionOf, evolutions, blank}
-use Rattle.specification.specs.Filling.{placeOf, filledOf, filling, Fillable}
+use Rattle.specification.specs.inner.Filling.{placeOf, filledOf, filling, Fillable}
 use Rattle.specification.specs.Reading.{ReadAs}
-use Rattle.specification.specs.Private.{Laid, CoreAs}
+use Rattle.specification.specs.inner.Private.{Laid, CoreAs}
 use Rattle.specification.specs.declared.Evolution.{Evolution}
 use Rattle.specification.specs.declared.records.Sizes.{Sizes}
 use Rattle.specification.specs.declared.reading.Core.{Core}
@@ -49,10 +48,6 @@ module _ (file : List ℕ) (z : Sizes) (from text : ℕ) (ef : from ≡ recordAt
         texts = omega (arith, place-is (z .evolutions), l .texts, l .few);
       }
 
-none-are : (file : List ℕ) (z : Sizes) → evolutions file z 0 ≡ []
-unfolding evolutions
-none-are file z = refl
-
 zeros-are : (file : List ℕ) (from text n : ℕ) → filling file from text false n ≡ replicate n blank
 zeros-are file from text zero = refl
 zeros-are file from text (suc n) =
@@ -78,12 +73,6 @@ module _ (file table words : List ℕ) (a b : List Evolution) (r : Core) (t w : 
   before : List Evolution → List Evolution
   before l = l ++ drop (z .evolutions) a
 
-  sound : Dec (0 < r .count) → r .count ≡ z .evolutions → filling file (r .from) (r .text) true (z .evolutions) ≡ evolutions file z (z .evolutions)
-  sound (yes p) k = let q = c .hands .places p in all-are file z (r .from) (r .text) (q .2) (q .3) (z .evolutions)
-  sound (no p) k =
-      let n : z .evolutions ≡ 0 = omega arith in
-      ap (filling file (r .from) (r .text) true) n ∙ sym (ap (evolutions file z) n ∙ none-are file z)
-
   pub hands-on : ReadAs file table words a (r .contents) t w b
   unfolding before
   hands-on =
@@ -92,6 +81,6 @@ module _ (file table words : List ℕ) (a b : List Evolution) (r : Core) (t w : 
         records = record {
           unchanged = λ h l. e ∙ ap (left (r .good)) (c .hands .nothing h l);
           blanked = λ h. let k = c .hands .zeros h in e ∙ ap₂ left (k .1) (k .0) ∙ ap before (zeros-are file (r .from) (r .text) (z .evolutions));
-          filled = λ h. let k = c .hands .all h in e ∙ ap₂ left (k .1) (k .0) ∙ ap before (sound (decLt 0 (r .count)) (k .0));
+          filled = λ h. let k = c .hands .all h in e ∙ ap₂ left (k .1) (k .0) ∙ ap before (all-are file z (r .from) (r .text) (k .2) (k .3) (z .evolutions));
         };
       }

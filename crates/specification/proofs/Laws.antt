@@ -10,7 +10,7 @@ use lib.ListN.{length, getD, take, length-take}
 use lib.Seq.{getD-take, ext-getD, length-take-le}
 use Rattle.specification.specs.File.{countOf, entryAt, startOf, lengthOf, WellFormed}
 use Rattle.specification.specs.Records.{sumTo, sizesOf, Sized, records, word, source, target, Beyond, output-beyond, source-beyond, target-beyond}
-use Rattle.specification.specs.Private.{Laid, Wrong}
+use Rattle.specification.specs.inner.Private.{Laid, Wrong}
 use Rattle.specification.specs.declared.records.Sizes.{Sizes}
 use Rattle.specification.specs.declared.records.RecordCheck.{RecordCheck}
 use Rattle.specification.specs.declared.records.RecordCheck as RecordCheck
@@ -84,4 +84,3 @@ pub wrong-below : (file : List ℕ) (z : Sizes) (check : RecordCheck) (r : ℕ) 
 wrong-below file z RecordCheck.the-variants.Beyond r w = beyond-below w
 wrong-below file z RecordCheck.the-variants.Own r w = w .evolves .below
 wrong-below file z RecordCheck.the-variants.Twice r w = w .evolves .below
-wrong-below file z RecordCheck.the-variants.SameWord r w = omega (arith, w .state)

@@ -5,8 +5,8 @@ pub mod Settling
 pub mod Outcomes
 pub mod Filling
 pub mod HandOn
+pub mod Walking
 pub mod Rows
-pub mod Blanks
 pub mod Once
 pub mod Refusals
 pub mod Meanings

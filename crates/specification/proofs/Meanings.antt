@@ -34,10 +34,10 @@ module _ {file table words : List ℕ} {room : ℕ} {r : Contents} {t w : List �
       record { rule = m .rule; fires = m .fires; only = λ r f. same-rule file (sizesOf file) (no-two-rules u e) c r (m .rule) f (m .fires); leads = m .leads }
 
   -- by the sizes that are answered
-  pub table-means : (s v : ℕ) → s < r .states → v < 2 ^ r .inputs → OneRule file (sizesOf file) s v (getD t (coupleAt (2 ^ r .inputs) s v) 0)
+  pub table-means : (s v : ℕ) → s < r .frame .states → v < 2 ^ r .frame .inputs → OneRule file (sizesOf file) s v (getD t (coupleAt (2 ^ r .frame .inputs) s v) 0)
   table-means s v h k =
-      let n : r .inputs ≡ sizesOf file .inputs = ap (λ (r : Contents). r .inputs) (u .done e) in
-      let m : r .states ≡ sizesOf file .states = ap (λ (r : Contents). r .states) (u .done e) in
+      let n : r .frame .inputs ≡ sizesOf file .inputs = ap (λ (r : Contents). r .frame .inputs) (u .done e) in
+      let m : r .frame .states ≡ sizesOf file .states = ap (λ (r : Contents). r .frame .states) (u .done e) in
       subst (λ n. OneRule file (sizesOf file) s v (getD t (coupleAt (2 ^ n) s v) 0)) (sym n) (means s v (subst (λ k. s < k) m h) (subst (λ n. v < 2 ^ n) n k))
 
 -- the list of evolutions, by its elements
@@ -70,15 +70,15 @@ module _ {file table words : List ℕ} {a : List Evolution} {r : Contents} {t w 
   inside i h =
       let z = sizesOf file in
       let k = z .states + i in
-      let p = judged-passes 13 (u .here .verdict) (omega arith) e in
+      let p = judged-passes 13 (u .here .verdict) refl e in
       let n : length file < textAt file z k + textLength file z k → ⊥ =
       λ l. p .0 .nowhere 0 (refl, λ f. p .1 .0 .nowhere 0 (refl, λ s. omega (arith, laid file f s .texts, sum-below (textLength file z) k (records z) (omega arith)))) in
       omega arith
 
   -- what is asked of record i is asked of the condition of evolution i
-  pub record-asks : (i v : ℕ) {q : Bool} → i < r .evolutions → Decides (Met file (getD b i blank) (r .inputs) v) q → Decides (Holds (sizesOf file .inputs) v (textOf file (sizesOf file) (sizesOf file .states + i))) q
+  pub record-asks : (i v : ℕ) {q : Bool} → i < r .evolutions → Decides (Met file (getD b i blank) (r .frame .inputs) v) q → Decides (Holds (sizesOf file .inputs) v (textOf file (sizesOf file) (sizesOf file .states + i))) q
   record-asks i v {q} h d =
-      let n : r .inputs ≡ sizesOf file .inputs = ap (λ (r : Contents). r .inputs) (u .here .done e) in
+      let n : r .frame .inputs ≡ sizesOf file .inputs = ap (λ (r : Contents). r .frame .inputs) (u .here .done e) in
       let m : r .evolutions ≡ sizesOf file .evolutions = ap (λ (r : Contents). r .evolutions) (u .here .done e) in
       decides-map (λ x. x .holds) (λ x. record { inside = inside i (omega arith); holds = x })
       (subst₂ (λ (x : Evolution) (n : ℕ). Decides (Met file x n v) q) (record-is i h) n d)

@@ -1,6 +1,6 @@
 -- Each promise of this crate leaves one outcome: the answer and every element of each lent buffer. The verdict of a list of checks is
 -- one; the sizes follow from it; and where a file is read no two rules hold, so that each couple has one move.
-use mathlib.Core.Path.{_≡_, sym, ap, _∙_}
+use mathlib.Core.Path.{_≡_, refl, sym, ap, _∙_}
 use mathlib.Core.Bool.{Bool}
 use mathlib.Core.List.{List}
 use mathlib.Core.Logic.{_⊎_, ⊎-elim}
@@ -26,10 +26,10 @@ use Rattle.specification.proofs.Settling.{same-move}
 module _ {file table words : List ℕ} {room : ℕ} {r : Contents} {t w : List ℕ} (u : ReadHere file table words room r t w) where
   -- a file that is read has no couple at which two rules hold
   pub no-two-rules : r .answer .number ≡ 0 → None (TwoRules file (sizesOf file) (settings (sizesOf file)))
-  no-two-rules e = judged-passes 13 (u .verdict) (omega arith) e .1 .1 .1 .1 .1 .1 .1 .1 .1 .0
+  no-two-rules e = judged-passes 13 (u .verdict) refl e .1 .1 .1 .1 .1 .1 .1 .1 .1 .0
 
   few : (r .answer .number ≡ 0) ⊎ (14 ≤ r .answer .number) → r .answer .number ≡ 0
-  few = ⊎-elim (λ e. e) (λ h. absurd (let k = judged-number 1 13 (u .verdict) (omega arith) (λ e. omega arith) in omega (arith, k .1)))
+  few = ⊎-elim (λ e. e) (λ h. absurd (let k = judged-number 1 13 (u .verdict) refl (λ e. omega arith) in omega (arith, k .1)))
 
   one-move : (r .answer .number ≡ 0) ⊎ (14 ≤ r .answer .number) → (p x y : ℕ) → p < couples (sizesOf file)
       → MoveAt file (sizesOf file) (settings (sizesOf file)) p x → MoveAt file (sizesOf file) (settings (sizesOf file)) p y → x ≡ y

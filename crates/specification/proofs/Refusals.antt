@@ -1,9 +1,8 @@
 -- Demand 2: a file is refused exactly when a check of its list fails, and by the first that does, at its least place. That holds of the
 -- verdict of any list of checks.
-use mathlib.Core.Path.{_≡_}
+use mathlib.Core.Path.{_≡_, refl}
 use mathlib.Core.List.{List}
 use Prim.Native.Nat.{ℕ}
-use native.Mathlib.Omega.{arith}
 use lib.ListN.{length}
 use Rattle.verdict.specs.Checks.{Check, Fails, FirstFails}
 use Rattle.verdict.specs.declared.Answer.{Answer}
@@ -24,7 +23,7 @@ module _ {file table words : List ℕ} {room : ℕ} {r : Contents} {t w : List �
 
   -- a check fails: refused, and the first that fails is the answer
   pub fails-refused : Fails checks → r .answer .number ≡ 0 → ⊥
-  fails-refused f e = fails-judged (u .verdict) 13 (omega arith) f e
+  fails-refused f e = fails-judged (u .verdict) 13 refl f e
 
   pub first-refused : (a : Answer) → FirstFails checks a → r .answer ≡ a
   first-refused a f = first-judged (u .verdict) a f

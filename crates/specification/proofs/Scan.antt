@@ -1,30 +1,24 @@
 -- A scan of the rules of one state at one setting keeps a tally: of the records seen at most one holds, and the byte is where it leads,
 -- or the blank. At the end the byte is what the table notes of the couple.
-use mathlib.Core.Path.{_≡_, refl, sym, subst₂, _∙_}
+use mathlib.Core.Path.{_≡_, refl, sym, subst, subst₂, _∙_}
+use mathlib.Core.Logic.{⊎-elim}
 use mathlib.Core.List.{List}
 use Prim.Native.Nat.{ℕ, _+_, _*_, _≤_, _<_}
 use native.Mathlib.Nat.{lt-of-lt-of-le}
 use native.Mathlib.Omega.{arith}
-use native.Mathlib.Decide.{decLt}
 use lib.ListN.{length, set}
 use borrow.Author.Count.{below-more}
 use Rattle.verdict.specs.Buffers.{Filled}
 use Rattle.verdict.proofs.Fills.{filled-at, filled-more}
 use Rattle.machine.specs.Couples.{Couple}
+use Rattle.machine.proofs.Order.{below-or}
 use Rattle.machine.proofs.Couples.{same-couple}
 use Rattle.specification.specs.Limits.{blankMove}
 use Rattle.specification.specs.Records.{records}
 use Rattle.specification.specs.Rules.{leadsTo, Fires, Two, TwoRules}
-use Rattle.specification.specs.Private.{Noted}
+use Rattle.specification.specs.inner.Private.{Noted}
 use Rattle.specification.specs.declared.records.Sizes.{Sizes}
 use Rattle.specification.proofs.Firing.{rule-state}
-
-by-order : {P : Type 0} (q n : ℕ) → (q < n → P) → (n ≤ q → P) → P
-by-order {P} q n f g = by (decLt q n)
-  where
-    by : Dec (q < n) → P
-    by (yes h) = f h
-    by (no h) = g (omega arith)
 
 -- of the numbers below n at most one is an F, and `to` is where it leads, or the blank
 pub record Tally (F : ℕ → Type 0) (lead : ℕ → ℕ) (n to : ℕ) : Type 0 where
@@ -36,22 +30,17 @@ module _ {F : ℕ → Type 0} {lead : ℕ → ℕ} {n to : ℕ} (t : Tally F lea
   pub tally-at : {m x : ℕ} → m ≡ n → x ≡ to → Tally F lead m x
   tally-at e h = subst₂ (Tally F lead) (sym e) (sym h) t
 
-  pub tally-skip : (F n → ⊥) → Tally F lead (n + 1) to
-  tally-skip not =
-      record {
-        one = λ e. let w = t .one e in (w .0, omega (arith, w .1), w .2, w .3);
-        none = λ e. below-more (λ q. F q → ⊥) n (t .none e) not;
-        single = λ q r l h f. below-more (λ r. q < r → F q → F r → ⊥) n (λ r h l f. t .single q r l h f) (λ l f. not) r h l f;
-      }
-
   -- none of those from n up to m
   pub tally-past : {m : ℕ} → n ≤ m → ((q : ℕ) → q < m → n ≤ q → F q → ⊥) → Tally F lead m to
   tally-past {m} l not =
       record {
         one = λ e. let w = t .one e in (w .0, omega (arith, w .1), w .2, w .3);
-        none = λ e q h f. by-order q n (λ k. t .none e q k f) (λ k. not q h k f);
-        single = λ q r k h f g. by-order r n (λ b. t .single q r k b f g) (λ b. not r h b g);
+        none = λ e q h f. ⊎-elim (λ k. t .none e q k f) (λ k. not q h k f) (below-or q n);
+        single = λ q r k h f g. ⊎-elim (λ b. t .single q r k b f g) (λ b. not r h b g) (below-or r n);
       }
+
+  pub tally-skip : (F n → ⊥) → Tally F lead (n + 1) to
+  tally-skip not = tally-past (omega arith) (λ q h l f. let e : q ≡ n = omega arith in not (subst F e f))
 
   pub tally-take : to ≡ blankMove → lead n < blankMove → F n → Tally F lead (n + 1) (lead n)
   tally-take e b here =

@@ -1,46 +1,43 @@
 -- The table that a scan of the rules leaves: its bytes are the moves, or the blank at couples without a rule. So where each couple has
--- a rule its moves are the file's, and what the checks of a table find in it are the refusals 9, 10, 12 and 13 of the file.
+-- a rule its moves are the file's, and what the checks of a table find in it are the refusals 9 to 13 of the file.
 use mathlib.Core.Path.{_≡_, refl, sym, ap, subst, _∙_}
-use mathlib.Core.Bool.{Bool}
 use mathlib.Core.List.{List}
 use mathlib.Core.Logic.{_⊎_, inl, inr, ⊎-elim}
 use Prim.Native.Nat.{ℕ, _+_, _*_, _≤_, _<_}
 use native.Mathlib.Omega.{arith}
-use native.Mathlib.Decide.{decLt, ℕ-discrete}
-use lib.ListN.{length, getD}
+use lib.ListN.{getD}
 use lib.Arith.{digits-lt}
-use Rattle.verdict.specs.Checks.{None, Finds, Decides, Within, Judged, Passed}
+use lib.Pow.{pow-pos}
+use Rattle.verdict.specs.Checks.{None, Finds, Judged, Passed}
 use Rattle.verdict.specs.Buffers.{Filled}
 use Rattle.verdict.specs.declared.Answer.{Answer}
 use Rattle.verdict.specs.declared.Found.{Found}
 use Rattle.verdict.specs.declared.Found.the-variants.{Nothing}
-use Rattle.verdict.proofs.Order.{judged-passes}
-use Rattle.verdict.proofs.Tests.{finds-map, decides-map, found-none, without}
-use Rattle.machine.specs.Limits.{mostSettings}
+use Rattle.verdict.proofs.Order.{judged-passes, judged-row}
+use Rattle.verdict.proofs.Tests.{found-none}
 use Rattle.machine.specs.Couples.{Couple}
-use Rattle.machine.specs.Moves.{tableMoves, Stateless, Transient, Unreached, Start}
+use Rattle.machine.specs.Moves.{tableMoves, Stateless, SameWord, Start}
+use Rattle.machine.specs.Runs.{machineOf, Starts}
+use Rattle.machine.proofs.Order.{below-or, equal-or}
 use Rattle.machine.proofs.Couples.{couple-of, couple-below}
 use Rattle.machine.proofs.Same.{Into, transient-into, unreached-into, start-into}
-use Rattle.tables.specs.Tables.{Small, Fit}
 use Rattle.specification.specs.Limits.{blankMove}
-use Rattle.specification.specs.Records.{records, Beyond, target-beyond}
-use Rattle.specification.specs.Rules.{leadsTo, Fires, TwoRules, NoRule, Moves, MoveAt}
-use Rattle.specification.specs.Private.{Laid, Noted, Settled}
-use Rattle.specification.specs.Segments.{moveChecks}
+use Rattle.specification.specs.Records.{frameOf, settings, couples, records, word, Beyond, target-beyond}
+use Rattle.specification.specs.Rules.{leadsTo, Fires, TwoRules, NoRule, Moves, MoveAt, MayStart}
+use Rattle.specification.specs.Reading.{moveChecks}
+use Rattle.specification.specs.inner.Private.{Laid, Noted, filledChecks}
 use Rattle.specification.specs.declared.records.Sizes.{Sizes}
 use Rattle.specification.proofs.Firing.{leads-state, leads-evolution}
 
 module _ (file : List ℕ) (z : Sizes) where
   -- rules lead to states, by check 4
   pub leads-below : None (Beyond file z) → (r : ℕ) → r < records z → leadsTo file z r < z .states
-  leads-below n r h = by (decLt r (z .states))
-    where
-      by : Dec (r < z .states) → leadsTo file z r < z .states
-      by (yes l) = omega (arith, leads-state file z r l)
-      by (no l) =
-          let k : z .states ≤ r = omega arith in
-          let g : z .states ≤ leadsTo file z r → ⊥ = λ b. n .nowhere r (target-beyond (record { after = k; below = h }) (omega (arith, leads-evolution file z r k))) in
-          omega arith
+  leads-below n r h = ⊎-elim
+      (λ l. omega (arith, leads-state file z r l))
+      (λ k.
+      let g : z .states ≤ leadsTo file z r → ⊥ = λ b. n .nowhere r (target-beyond (record { after = k; below = h }) (omega (arith, leads-evolution file z r k))) in
+      omega arith)
+      (below-or r (z .states))
 
   -- at most one rule holds, by check 8
   pub same-rule : {m s v p : ℕ} → None (TwoRules file z m) → Couple (z .states) m s v p → (q r : ℕ) → Fires file z s v q → Fires file z s v r → q ≡ r
@@ -53,57 +50,74 @@ module _ (file : List ℕ) (z : Sizes) where
   same-move n k a b = sym (a .leads) ∙ ap (leadsTo file z) (same-rule n k _ _ (a .fires) (b .fires)) ∙ b .leads
 
 -- rules that lead to states, no two of which hold at a couple, and the table of their moves
-pub record Tabled (file : List ℕ) (z : Sizes) (m : ℕ) (table : List ℕ) : Type 0 where
+pub record Ruled (file : List ℕ) (z : Sizes) (table : List ℕ) : Type 0 where
   pub leads : (r : ℕ) → r < records z → leadsTo file z r < z .states
-  pub single : None (TwoRules file z m)
-  pub long : z .states * m ≤ length table
-  pub moves : (p : ℕ) → p < z .states * m → MoveAt file z m p (getD table p 0)
+  pub single : None (TwoRules file z (settings z))
+  pub moves : (p : ℕ) → p < couples z → MoveAt file z (settings z) p (getD table p 0)
 
 -- the moves of such a table are those of the file
-module _ {file : List ℕ} {z : Sizes} {m : ℕ} {table : List ℕ} (t : Tabled file z m table) where
+module _ {file : List ℕ} {z : Sizes} {table : List ℕ} (t : Ruled file z table) where
   below : {s v x : ℕ} → Moves file z s v x → x < z .states
   below y = subst (λ x. x < z .states) (y .leads) (t .leads _ (y .fires .below))
 
-  here : (s v : ℕ) → s < z .states → v < m → Moves file z s v (getD table (s * m + v) 0)
+  here : (s v : ℕ) → s < z .states → v < settings z → Moves file z s v (getD table (s * settings z + v) 0)
   here s v h k = t .moves _ (digits-lt h k) .move s v (record { state = h; setting = k; number = refl })
 
-  pub table-into : Into (z .states) m (tableMoves table m) (Moves file z)
+  pub table-into : Into (z .states) (settings z) (tableMoves table (settings z)) (Moves file z)
   table-into =
       record {
         to = λ s v x h k e. subst (Moves file z s v) e (here s v h k);
         inside = λ s v x h k e. below (subst (Moves file z s v) e (here s v h k));
       }
 
-  pub into-table : Into (z .states) m (Moves file z) (tableMoves table m)
+  pub into-table : Into (z .states) (settings z) (Moves file z) (tableMoves table (settings z))
   into-table =
       record {
         to = λ s v x h k y. same-move file z (t .single) (record { state = h; setting = k; number = refl }) (here s v h k) y;
         inside = λ s v x h k y. below y;
       }
 
-  pub states-only : 0 < m → (p : ℕ) → p < z .states * m → getD table p 0 < z .states
-  states-only h p l = let k = couple-of p h l in below (t .moves p l .move _ _ k)
+  pub states-only : (p : ℕ) → p < couples z → getD table p 0 < z .states
+  states-only p l = below (t .moves p l .move _ _ (couple-of p (pow-pos (z .inputs)) l))
 
--- what the scan leaves where no two rules hold
-pub settled : {file : List ℕ} {z : Sizes} {m : ℕ} {a b : List ℕ} {x : Found} → None (Beyond file z) → Finds (TwoRules file z m) x → x ≡ Nothing
-    → Filled (z .states * m) (λ p y. x ≡ Nothing → Noted file z m p y) a b → z .states * m ≤ length a → Settled file z m b
-settled {file} {z} n two e f h =
-    record { leads = leads-below file z n; single = found-none two e; long = omega (arith, f .same-length); noted = λ p l. f .needed p l e }
+  -- and so are its starts
+  module _ (i : z .initial < z .states) where
+    pub start-there : (v : ℕ) × Start (Moves file z) (MayStart file z) (settings z) (z .initial) v → (v : ℕ) × Starts (machineOf (frameOf z) table) v
+    start-there s = (s .0, start-into into-table (λ _. refl) i (s .1))
 
-module _ {file : List ℕ} {z : Sizes} {m : ℕ} {table : List ℕ} (t : Settled file z m table) (l : Laid file z) (few : m ≤ mostSettings) where
-  small : Small (z .states) m
-  small = record { few-states = l .ranges .few-states; few-settings = few }
+    start-back : (v : ℕ) × Starts (machineOf (frameOf z) table) v → (v : ℕ) × Start (Moves file z) (MayStart file z) (settings z) (z .initial) v
+    start-back s = (s .0, start-into table-into (λ _. tt) i (s .1))
 
+-- what the scan leaves where no two rules hold, and the words of the states
+pub record Settled (file : List ℕ) (z : Sizes) (table words : List ℕ) : Type 0 where
+  pub laid : Laid file z
+  pub leads : (r : ℕ) → r < records z → leadsTo file z r < z .states
+  pub single : None (TwoRules file z (settings z))
+  pub noted : (p : ℕ) → p < couples z → Noted file z (settings z) p (getD table p 0)
+  pub named : (s : ℕ) → s < z .states → getD words s 0 ≡ word file z s
+
+-- the scan's settings are those of the file
+pub scanned : {file : List ℕ} {z : Sizes} {m : ℕ} {a b : List ℕ} {x : Found} → m ≡ settings z → Finds (TwoRules file z m) x × Filled (z .states * m) (λ p y. x ≡ Nothing → Noted file z m p y) a b
+    → Finds (TwoRules file z (settings z)) x × Filled (couples z) (λ p y. x ≡ Nothing → Noted file z (settings z) p y) a b
+scanned {file} {z} {a = a} {b} {x} k f = subst (λ (m : ℕ). Finds (TwoRules file z m) x × Filled (z .states * m) (λ p y. x ≡ Nothing → Noted file z m p y) a b) k f
+
+pub settled : {file : List ℕ} {z : Sizes} {a b u w : List ℕ} {x : Found} → Laid file z → None (Beyond file z) → x ≡ Nothing
+    → Finds (TwoRules file z (settings z)) x × Filled (couples z) (λ p y. x ≡ Nothing → Noted file z (settings z) p y) a b → Filled (z .states) (λ s y. y ≡ word file z s) u w → Settled file z b w
+settled {file} {z} l n e f g = record { laid = l; leads = leads-below file z n; single = found-none (f .0) e; noted = λ p h. f .1 .needed p h e; named = g .needed }
+
+-- states with other words of the same numbers
+same-words : {u w : ℕ → ℕ} {states : ℕ} → ((s : ℕ) → s < states → u s ≡ w s) → (s : ℕ) → SameWord u states s → SameWord w states s
+same-words e s x =
+    let h = x .state in
+    record { state = h; earlier = x .earlier; before = x .before; same = sym (e (x .earlier) (omega (arith, x .before))) ∙ x .same ∙ e s h }
+
+module _ {file : List ℕ} {z : Sizes} {table words : List ℕ} (t : Settled file z table words) where
   -- a byte is the blank, or the move
-  blank-or : (p : ℕ) → p < z .states * m → (getD table p 0 ≡ blankMove) ⊎ MoveAt file z m p (getD table p 0)
-  blank-or p h = by (ℕ-discrete (getD table p 0) blankMove)
-    where
-      by : Dec (getD table p 0 ≡ blankMove) → (getD table p 0 ≡ blankMove) ⊎ MoveAt file z m p (getD table p 0)
-      by (yes e) = inl e
-      by (no e) = inr (t .noted p h .some e)
+  blank-or : (p : ℕ) → p < couples z → (getD table p 0 ≡ blankMove) ⊎ MoveAt file z (settings z) p (getD table p 0)
+  blank-or p h = ⊎-elim inl (λ n. inr (t .noted p h .some n)) (equal-or (getD table p 0) blankMove)
 
   -- refusal 9: it is no state exactly where there is no rule
-  stateless-to : (p : ℕ) → Stateless table (z .states) m p → NoRule file z m p
+  stateless-to : (p : ℕ) → Stateless table (z .states) (settings z) p → NoRule file z (settings z) p
   stateless-to p x =
       let k = x .couple in
       let h = couple-below k in
@@ -111,49 +125,37 @@ module _ {file : List ℕ} {z : Sizes} {m : ℕ} {table : List ℕ} (t : Settled
       (λ y. let y = y .move _ _ k in let g = t .leads _ (y .fires .below) in let b = x .beyond in absurd (omega (arith, y .leads)))
       (blank-or p h)
 
-  to-stateless : (p : ℕ) → NoRule file z m p → Stateless table (z .states) m p
+  to-stateless : (p : ℕ) → NoRule file z (settings z) p → Stateless table (z .states) (settings z) p
   to-stateless p x =
       let k = x .couple in
-      ⊎-elim (λ e. record { s = x .s; v = x .v; couple = k; beyond = omega (arith, l .ranges .few-states) })
+      ⊎-elim (λ e. record { s = x .s; v = x .v; couple = k; beyond = omega (arith, t .laid .ranges .few-states) })
       (λ y. absurd (x .none _ (y .move _ _ k .fires)))
       (blank-or p (couple-below k))
 
-  pub nine : {x : Found} → Finds (Within (Small (z .states) m) (Stateless table (z .states) m)) x → Finds (NoRule file z m) x
-  nine f = finds-map stateless-to to-stateless (without small f)
+  -- where each couple has a rule the bytes are the moves
+  pub ruled : None (NoRule file z (settings z)) → Ruled file z table
+  ruled some =
+      record {
+        leads = t .leads;
+        single = t .single;
+        moves = λ p h.
+            let k = couple-of p (pow-pos (z .inputs)) h in
+            ⊎-elim (λ e. absurd (some .nowhere p (record { couple = k; none = t .noted p h .none e _ _ k; s = _; v = _ }))) (λ y. y) (blank-or p h);
+      }
 
-  module _ (some : None (NoRule file z m)) (positive : 0 < m) where
-    -- where each couple has a rule the bytes are the moves
-    pub tabled : Tabled file z m table
-    tabled =
-        record {
-          leads = t .leads;
-          single = t .single;
-          long = t .long;
-          moves = λ p h.
-              let k = couple-of p positive h in
-              ⊎-elim (λ e. absurd (some .nowhere p (record { couple = k; none = t .noted p h .none e _ _ k; s = _; v = _ }))) (λ y. y) (blank-or p h);
-        }
+  -- so the checks of the table and the words are those of the file
+  pub carried : {a : Answer} → Judged (filledChecks (machineOf (frameOf z) table) words) Passed a → Judged (moveChecks file z) Passed a
+  carried =
+      let i = t .laid .ranges .begins in
+      judged-row stateless-to to-stateless (λ some.
+      let r = ruled some in
+      judged-row (transient-into (table-into r) (into-table r)) (transient-into (into-table r) (table-into r)) (λ _.
+      judged-row (same-words (t .named)) (same-words (λ s h. sym (t .named s h))) (λ _.
+      judged-row (unreached-into (into-table r) i) (unreached-into (table-into r) i) (λ _.
+      judged-row (λ p x. (x .0, λ s. x .1 (start-there r i s))) (λ p x. (x .0, λ s. x .1 (start-back r i s))) (λ _ v. v)))))
 
-    fit : Fit table (z .states) m (z .initial)
-    fit = record { small = small; begins = l .ranges .begins; long = t .long; inside = states-only tabled positive }
-
-    -- so the other checks of the table are those of the file
-    pub ten : {x : Found} → Finds (Within (Small (z .states) m) (Transient (tableMoves table m) (z .states) m)) x → Finds (Transient (Moves file z) (z .states) m) x
-    ten f = finds-map (transient-into (table-into tabled) (into-table tabled)) (transient-into (into-table tabled) (table-into tabled)) (without small f)
-
-    pub twelve : {x : Found} → Finds (Within (Fit table (z .states) m (z .initial)) (Unreached (tableMoves table m) (z .states) m (z .initial))) x → Finds (Unreached (Moves file z) (z .states) m (z .initial)) x
-    twelve f = finds-map (unreached-into (into-table tabled) (l .ranges .begins)) (unreached-into (table-into tabled) (l .ranges .begins)) (without fit f)
-
-    pub thirteen : {b : Bool} → Decides (Small (z .states) m × (z .initial < z .states) × Start (tableMoves table m) m (z .initial)) b → Decides (Start (Moves file z) m (z .initial)) b
-    thirteen d =
-        decides-map (λ x. start-into (table-into tabled) (l .ranges .begins) (x .2)) (λ x. (small, l .ranges .begins, start-into (into-table tabled) (l .ranges .begins) x)) d
-
--- and where they pass, the buffer is filled with the moves
-pub moves-left : {file : List ℕ} {z : Sizes} {m : ℕ} {a b : List ℕ} {r : Answer} {P : ℕ → ℕ → Type 0} (t : Settled file z m b) (l : Laid file z) (few : m ≤ mostSettings) → 0 < m → Judged (moveChecks file z m) Passed r
-    → Filled (z .states * m) P a b → Filled (z .states * m) (λ p x. r .number ≡ 0 → MoveAt file z m p x) a b
-moves-left t l few positive v f =
-    record {
-      same-length = f .same-length;
-      needed = λ p h e. tabled t l few (judged-passes 13 v (omega arith) e .0) positive .moves p h;
-      beyond = f .beyond;
-    }
+  -- and where they pass, the buffer is filled with the moves
+  pub moves-left : {a : List ℕ} {r : Answer} {P : ℕ → ℕ → Type 0} → Judged (moveChecks file z) Passed r → Filled (couples z) P a table
+      → Filled (couples z) (λ p x. r .number ≡ 0 → MoveAt file z (settings z) p x) a table
+  moves-left v f =
+      record { same-length = f .same-length; needed = λ p h e. ruled (judged-passes 13 v refl e .0) .moves p h; beyond = f .beyond }

@@ -4,6 +4,4 @@ pub mod Records
 pub mod Rules
 pub mod Evolutions
 pub mod Reading
-pub mod Segments
-pub mod Filling
-pub mod Private
+pub mod inner

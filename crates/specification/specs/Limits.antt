@@ -1,6 +1,5 @@
 -- Sizes of a file (document 01, "The ground"); inputs and states are those of a machine. Assumes nothing: these are definitions.
-use Prim.Native.Nat.{ℕ, _+_}
-use Rattle.machine.specs.Limits.{mostStates}
+use Prim.Native.Nat.{ℕ}
 
 -- 1 to 16 outputs
 abbrev pub mostOutputs : ℕ
@@ -9,10 +8,6 @@ mostOutputs = 16
 -- at most 992 evolutions
 abbrev pub mostEvolutions : ℕ
 mostEvolutions = 992
-
--- so many records at most: states, then evolutions
-abbrev pub mostRecords : ℕ
-mostRecords = mostStates + mostEvolutions
 
 -- files up to 65,535 bytes
 abbrev pub mostBytes : ℕ

@@ -1,27 +1,26 @@
 -- Reading a file: its checks in their order, and what it leaves (document 01, "Refusals by number").
 -- Assumes nothing: these are definitions.
 use mathlib.Core.Path.{_≡_}
-use mathlib.Core.List.{List, [], _∷_}
+use mathlib.Core.List.{List, [], _∷_, _++_}
 use Prim.Native.Nat.{ℕ}
 use lib.ListN.{length}
 use Rattle.verdict.specs.Checks.{Check, check, Unless, Short, Passed, Judged}
 use Rattle.verdict.specs.Buffers.{Left}
 use Rattle.verdict.specs.declared.Answer.{Answer}
-use Rattle.machine.specs.Moves.{Transient, Unreached, Start}
+use Rattle.machine.specs.Moves.{Transient, SameWord, Unreached, Start}
 use Rattle.specification.specs.Limits.{blankMove, blankWord}
 use Rattle.specification.specs.File.{WellFormed}
-use Rattle.specification.specs.Records.{sizesOf, settings, couples, word, Sized, Beyond, Own, Twice, SameWord}
-use Rattle.specification.specs.Rules.{Unreads, TwoRules, NoRule, Moves, MoveAt}
+use Rattle.specification.specs.Records.{sizesOf, frameOf, settings, couples, word, Sized, Beyond, Own, Twice}
+use Rattle.specification.specs.Rules.{Unreads, TwoRules, NoRule, Moves, MoveAt, MayStart}
 use Rattle.specification.specs.Evolutions.{Handed}
 use Rattle.specification.specs.declared.Evolution.{Evolution}
 use Rattle.specification.specs.declared.Contents.{Contents}
 use Rattle.specification.specs.declared.records.Sizes.{Sizes}
 
--- the checks of a file, in their order, at room for so many table bytes, words and records
-abbrev pub fileChecks : List ℕ → ℕ → ℕ → ℕ → List Check
-fileChecks file tableRoom wordRoom recordRoom =
+-- 1 to 3: the file's shape, its sizes, and room for so many table bytes, words and records
+abbrev pub shapeChecks : List ℕ → ℕ → ℕ → ℕ → List Check
+shapeChecks file tableRoom wordRoom recordRoom =
     let z = sizesOf file in
-    let m = settings z in
     -- file too long or too short, mark, count, kinds, offsets or end wrong; kind 1 not 4 bytes; kind 2 or 3 not a multiple of 3
     check 1 (Unless (WellFormed file))
     -- a size outside its range; initial not below S; kind 2 not 3 × S bytes; over 992 evolutions; condition lengths not summing to kind 4
@@ -30,43 +29,55 @@ fileChecks file tableRoom wordRoom recordRoom =
     ∷ check 3 (Short (couples z) tableRoom)
     ∷ check 3 (Short (z .states) wordRoom)
     ∷ check 3 (Short (z .evolutions) recordRoom)
+    ∷ []
+
+-- 4 to 7: its records
+abbrev pub recordChecks : List ℕ → Sizes → List Check
+recordChecks file z =
     -- output bit beyond the outputs; state not below S in a record
-    ∷ check 4 (Beyond file z)
+    check 4 (Beyond file z)
     -- condition does not read
     ∷ check 5 (Unreads file z)
     -- evolution to its own source
     ∷ check 6 (Own file z)
     -- same source and target as an earlier evolution
     ∷ check 7 (Twice file z)
-    -- two rules hold
-    ∷ check 8 (TwoRules file z m)
-    -- no rule holds
-    ∷ check 9 (NoRule file z m)
-    -- transient
-    ∷ check 10 (Transient (Moves file z) (z .states) m)
-    -- output word of an earlier state
-    ∷ check 11 (SameWord file z)
-    -- state never reached
-    ∷ check 12 (Unreached (Moves file z) (z .states) m (z .initial))
-    -- no start
-    ∷ check 13 (Unless (Start (Moves file z) m (z .initial)))
     ∷ []
+
+-- 8: its rules
+abbrev pub ruleChecks : List ℕ → Sizes → List Check
+ruleChecks file z =
+    -- two rules hold
+    check 8 (TwoRules file z (settings z)) ∷ []
+
+-- 9 to 13: its moves
+abbrev pub moveChecks : List ℕ → Sizes → List Check
+moveChecks file z =
+    -- no rule holds
+    check 9 (NoRule file z (settings z))
+    -- transient
+    ∷ check 10 (Transient (Moves file z) (z .states) (settings z))
+    -- output word of an earlier state
+    ∷ check 11 (SameWord (word file z) (z .states))
+    -- state never reached
+    ∷ check 12 (Unreached (Moves file z) (z .states) (settings z) (z .initial))
+    -- no start
+    ∷ check 13 (Unless ((v : ℕ) × Start (Moves file z) (MayStart file z) (settings z) (z .initial) v))
+    ∷ []
+
+-- the checks of a file, in their order
+abbrev pub fileChecks : List ℕ → ℕ → ℕ → ℕ → List Check
+fileChecks file tableRoom wordRoom recordRoom =
+    let z = sizesOf file in
+    shapeChecks file tableRoom wordRoom recordRoom ++ recordChecks file z ++ ruleChecks file z ++ moveChecks file z
 
 -- a refusal: the sizes are all zero
 abbrev pub refusalOf : Answer → Contents
-refusalOf a = record { answer = a; inputs = 0; outputs = 0; states = 0; initial = 0; evolutions = 0 }
+refusalOf a = record { answer = a; outputs = 0; evolutions = 0; frame = record { inputs = 0; states = 0; initial = 0 } }
 
 -- success: the sizes of the file
 abbrev pub contentsOf : Answer → Sizes → Contents
-contentsOf a z =
-    record {
-      answer = a;
-      inputs = z .inputs;
-      outputs = z .outputs;
-      states = z .states;
-      initial = z .initial;
-      evolutions = z .evolutions;
-    }
+contentsOf a z = record { answer = a; outputs = z .outputs; evolutions = z .evolutions; frame = frameOf z }
 
 -- Reading a file at room for so many records: the verdict, the sizes, the table and the words.
 pub record ReadHere (file table₀ words₀ : List ℕ) (room : ℕ) (r : Contents) (table₁ words₁ : List ℕ) : Type 0 where

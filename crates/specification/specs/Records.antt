@@ -1,9 +1,10 @@
--- Sizes and records (document 01, "Specification file"): refusals 2, 4, 6, 7 and 11. Assumes nothing: these are definitions.
+-- Sizes and records (document 01, "Specification file"): refusals 2, 4, 6 and 7. Assumes nothing: these are definitions.
 use mathlib.Core.Path.{_≡_}
 use mathlib.Core.List.{List}
 use Prim.Native.Nat.{ℕ, zero, suc, _+_, _*_, _/_, _^_, _≤_, _<_}
 use lib.ListN.{getD}
 use Rattle.machine.specs.Limits.{mostInputs, mostStates}
+use Rattle.machine.specs.declared.Frame.{Frame}
 use Rattle.specification.specs.Limits.{mostOutputs, mostEvolutions}
 use Rattle.specification.specs.File.{twoAt, lengthOf, startOf}
 use Rattle.specification.specs.declared.records.Sizes.{Sizes}
@@ -24,6 +25,10 @@ sizesOf file =
       evolutions = lengthOf file 2 / 3;
       first = startOf file 1;
     }
+
+-- what the table jobs are told of them
+abbrev pub frameOf : Sizes → Frame
+frameOf z = record { inputs = z .inputs; states = z .states; initial = z .initial }
 
 -- settings, couples
 abbrev pub settings : Sizes → ℕ
@@ -97,10 +102,3 @@ pub record Twice (file : List ℕ) (z : Sizes) (r : ℕ) : Type 0 where
   pub evolved : Evolves z earlier
   pub from : source file z earlier ≡ source file z r
   pub to : target file z earlier ≡ target file z r
-
--- refusal 11: the state s has the output word of an earlier one
-pub record SameWord (file : List ℕ) (z : Sizes) (s : ℕ) : Type 0 where
-  pub state : s < z .states
-  pub earlier : ℕ
-  pub before : earlier < s
-  pub same : word file z earlier ≡ word file z s

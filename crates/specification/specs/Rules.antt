@@ -1,14 +1,14 @@
--- Rules and moves (document 01, "Moves and soundness"): refusals 5, 8 and 9. Assumes nothing: these are definitions.
+-- Rules and moves (document 01, "Moves and soundness"): refusals 5, 8 and 9, and the table. Assumes nothing: these are definitions.
 use mathlib.Core.Path.{_≡_}
 use mathlib.Core.Bool.{true, cond}
 use mathlib.Core.List.{List}
 use Prim.Native.Nat.{ℕ, _+_, _<_}
-use lib.ListN.{take, drop}
+use lib.ListN.{length, getD, take, drop}
 use lib.Dec.{ltb}
 use Rattle.condition.specs.Grammar.{holds}
 use Rattle.condition.specs.Condition.{Reads}
 use Rattle.machine.specs.Couples.{Couple}
-use Rattle.specification.specs.Records.{sumTo, records, recordAt, source, target, textLength}
+use Rattle.specification.specs.Records.{sumTo, sizesOf, settings, couples, records, recordAt, source, target, textLength}
 use Rattle.specification.specs.declared.records.Sizes.{Sizes}
 
 -- kind 4 follows the records: the condition texts, states first, then evolutions, end to end
@@ -76,6 +76,15 @@ pub record Moves (file : List ℕ) (z : Sizes) (s v t : ℕ) : Type 0 where
 -- x is the move of the couple p
 pub record MoveAt (file : List ℕ) (z : Sizes) (settings p x : ℕ) : Type 0 where
   pub move : (s v : ℕ) → Couple (z .states) settings s v p → Moves file z s v x
+
+-- the table of a file: the move of each couple
+pub record TableOf (file table : List ℕ) : Type 0 where
+  pub whole : length table ≡ couples (sizesOf file)
+  pub each : (p : ℕ) → p < couples (sizesOf file) → MoveAt file (sizesOf file) (settings (sizesOf file)) p (getD table p 0)
+
+-- a run may start at any setting
+abbrev pub MayStart : List ℕ → Sizes → ℕ → Type 0
+MayStart file z v = Unit {0}
 
 -- exactly one rule of s holds at v, and x is its target
 pub record OneRule (file : List ℕ) (z : Sizes) (s v x : ℕ) : Type 0 where

@@ -5,7 +5,7 @@ ghost use lib.ListN.{length, take};
 ghost use Rattle.verdict.specs.Checks.{Decides};
 ghost use Rattle.specification.specs.File.{twoAt, mark, kinds, entryAt, kindOf, offsetOf, lengthOf, startOf, Entries, Headed, Measured, WellFormed};
 use crate::BYTES;
-use tables::wide;
+use basics::wide;
 
 // The kinds of bodies, an entry each.
 const KINDS: usize = 4;
@@ -20,7 +20,7 @@ pub(crate) fn two_at(file: &[u8], at: usize) -> usize
 
 // Where entry k of the contents begins.
 fn entry_at(k: usize) -> usize
-    requires { ⌜ k < 256 ⌝ }
+    requires { ⌜ k < 2 ^ 8 ⌝ }
     ensures { λ r. ⌜ r ≡ entryAt k ⌝ }
 {
     5 + 5 * k

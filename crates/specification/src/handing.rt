@@ -5,9 +5,10 @@ ghost use Prim.Native.Nat.{_+_, _*_, _≤_, _<_};
 ghost use lib.ListN.{length, getD, drop};
 ghost use Rattle.specification.specs.Limits.{mostBytes};
 ghost use Rattle.specification.specs.Evolutions.{blank};
-ghost use Rattle.specification.specs.Filling.{nextOf, filling, Fillable};
+ghost use Rattle.specification.specs.inner.Filling.{nextOf, filling, Fillable};
 use crate::Evolution;
-use tables::wide;
+use basics::narrow;
+use basics::wide;
 
 // A record, and where the text of the next one starts.
 struct Next {
@@ -29,7 +30,7 @@ fn one(file: &[u8], from: usize, i: usize, at: usize, good: bool) -> Next
         let e = Evolution {
             source: source,
             target: target,
-            at: at as u16,
+            at: narrow(at),
             length: length,
         };
         return Next { e: e, at: next };

@@ -15,6 +15,7 @@ use crate::handing::fill;
 use crate::handing::take_out;
 use crate::reading::read_core;
 use crate::rules::met;
+use machine::Frame;
 use verdict::Answer;
 
 // The most outputs.
@@ -35,14 +36,13 @@ pub struct Evolution {
     pub length: u8,
 }
 
-// The answer, and the sizes of the file, all zero on refusal.
+// The answer, and the sizes of the file, all zero on refusal; the frame goes to the table jobs as it is.
+#[repr(C)]
 pub struct Contents {
     pub answer: Answer,
-    pub inputs: usize,
     pub outputs: usize,
-    pub states: usize,
-    pub initial: usize,
     pub evolutions: usize,
+    pub frame: Frame,
 }
 
 // Reads a file: its table of moves, its words and its evolutions, or the first check that fails, at its smallest place.
@@ -54,17 +54,12 @@ pub fn read(file: &[u8], table: &mut [u8], words: &mut [u16], records: &mut [Evo
     core.contents
 }
 
-// The same for a program that keeps no records: as many as a file may have are lent from here.
+// The same for a program that keeps no records, at room for as many as a file may have.
 pub fn read_here(file: &[u8], table: &mut [u8], words: &mut [u16]) -> Contents
     ensures { λ r. ⌜ ReadHere (now (file .entry)) (now (table .entry)) (now (words .entry)) mostEvolutions r (now (table .exit)) (now (words .exit)) ⌝ }
 {
-    let mut records = [Evolution {
-        source: 0,
-        target: 0,
-        at: 0,
-        length: 0,
-    }; EVOLUTIONS];
-    read(file, table, words, &mut records)
+    let core = read_core(file, table, words, EVOLUTIONS);
+    core.contents
 }
 
 // Whether the condition of evolution e of a file that was read holds at the setting; beyond the records none does.

@@ -1,21 +1,22 @@
 // Reading a file whole: the checks in their order, the table and the words.
 ghost use mathlib.Core.Path.{_≡_};
-ghost use Prim.Native.Nat.{_+_, _*_, _<_, _≤_};
+ghost use Prim.Native.Nat.{_≤_};
 ghost use lib.ListN.{length};
 ghost use Rattle.verdict.specs.Checks.{Passed, Judged};
 ghost use Rattle.verdict.specs.Buffers.{Filled};
-ghost use Rattle.machine.specs.Limits.{mostSettings};
+ghost use Rattle.machine.specs.Runs.{machineOf};
+ghost use Rattle.tables.specs.Tables.{Tabled};
 ghost use Rattle.specification.specs.Limits.{blankMove, blankWord};
 ghost use Rattle.specification.specs.File.{WellFormed};
-ghost use Rattle.specification.specs.Records.{word as wordOf, Ranges, Sized};
+ghost use Rattle.specification.specs.Records.{frameOf, settings, couples as couplesOf, word as wordOf, Sized};
 ghost use Rattle.specification.specs.Rules.{MoveAt};
-ghost use Rattle.specification.specs.Reading.{refusalOf, contentsOf};
-ghost use Rattle.specification.specs.Segments.{roomChecks, shapeChecks, recordChecks, moveChecks, soundChecks};
-ghost use Rattle.specification.specs.Private.{Laid, Placed, Settled, SoundAs, CoreAs};
+ghost use Rattle.specification.specs.Reading.{shapeChecks, recordChecks, refusalOf};
+ghost use Rattle.specification.specs.inner.Private.{Laid, Placed, filledChecks, soundChecks, SoundAs, OutcomeAs, CoreAs};
 use crate::Contents;
 use crate::file::well_formed;
 use crate::records::RecordCheck;
 use crate::records::Sizes;
+use crate::records::couples;
 use crate::records::first_wrong;
 use crate::records::record_at;
 use crate::records::sized;
@@ -24,14 +25,15 @@ use crate::records::texts_sum;
 use crate::records::word;
 use crate::rules::BLANK_MOVE;
 use crate::rules::TEXTS;
+use crate::rules::check_texts;
 use crate::rules::fill_moves;
-use crate::rules::first_unread;
 use crate::rules::next_rules;
 use crate::rules::starts_of;
-use tables::CoupleCheck;
-use tables::settings;
-use tables::started;
-use tables::unreached;
+use basics::narrow;
+use machine::Frame;
+use tables::Room;
+use tables::check_rooms;
+use tables::check_sound;
 use verdict::Answer;
 use verdict::Found;
 
@@ -46,36 +48,6 @@ pub(crate) struct Core {
     pub text: usize,
     pub count: usize,
     pub good: bool,
-}
-
-// Refusal 3.
-fn check_room(z: Sizes, table: usize, words: usize, records: usize) -> Answer
-    requires { ⌜ Ranges z ⌝ }
-    ensures { λ r. ⌜ Judged (roomChecks z table words records) Passed r ⌝ }
-{
-    let total = z.states * settings(z.inputs);
-    if table < total {
-        return Answer {
-            number: 3,
-            place: total,
-        };
-    }
-    if words < z.states {
-        return Answer {
-            number: 3,
-            place: z.states,
-        };
-    }
-    if records < z.evolutions {
-        return Answer {
-            number: 3,
-            place: z.evolutions,
-        };
-    }
-    Answer {
-        number: 0,
-        place: 0,
-    }
 }
 
 // Refusals 1, 2 and 3.
@@ -95,7 +67,21 @@ fn check_shape(file: &[u8], table: usize, words: usize, records: usize) -> Answe
             place: 0,
         };
     }
-    check_room(sizes_of(file), table, words, records)
+    let z = sizes_of(file);
+    check_rooms(
+        Room {
+            needed: couples(z),
+            has: table,
+        },
+        Room {
+            needed: z.states,
+            has: words,
+        },
+        Room {
+            needed: z.evolutions,
+            has: records,
+        },
+    )
 }
 
 // Refusals 4 to 7.
@@ -109,11 +95,9 @@ fn check_records(file: &[u8], z: Sizes, starts: &[usize; TEXTS]) -> Answer
             place: p,
         };
     }
-    if let Found::At(p) = first_unread(file, z, starts) {
-        return Answer {
-            number: 5,
-            place: p,
-        };
+    let texts = check_texts(file, z, starts);
+    if texts.number != 0 {
+        return texts;
     }
     if let Found::At(p) = first_wrong(file, z, RecordCheck::Own) {
         return Answer {
@@ -139,58 +123,35 @@ fn fill_words(file: &[u8], z: Sizes, words: &mut [u16])
 {
     let count = z.states;
     for s in 0..count {
-        words[s] = word(file, z, s) as u16;
+        words[s] = narrow(word(file, z, s));
     }
 }
 
-// Refusals 9 to 13, over the filled table.
-fn check_moves(file: &[u8], z: Sizes, m: usize, table: &[u8]) -> Answer
-    requires { ⌜ Laid (now file) z × (0 < m) × (m ≤ mostSettings) × Settled (now file) z m (now table) ⌝ }
-    ensures { λ r. ⌜ Judged (moveChecks (now (file .entry)) z m) Passed r ⌝ }
+// Refusals 9 to 13: those of the filled table and words, a blank being no state.
+fn check_moves(z: Sizes, table: &[u8], words: &[u16]) -> Answer
+    requires { ⌜ Tabled (machineOf (frameOf z) (now table)) × (z .states ≤ length (now words)) ⌝ }
+    ensures { λ r. ⌜ Judged (filledChecks (machineOf (frameOf z) (now (table .entry))) (now (words .entry))) Passed r ⌝ }
 {
-    let states = z.states;
-    let initial = z.initial;
-    if let Found::At(p) = tables::first_wrong(table, states, m, CoupleCheck::Stateless) {
+    let frame = Frame {
+        inputs: z.inputs,
+        states: z.states,
+        initial: z.initial,
+    };
+    let a = check_sound(frame, table, words);
+    if a.number == 4 {
         return Answer {
             number: 9,
-            place: p,
+            place: a.place,
         };
     }
-    if let Found::At(p) = tables::first_wrong(table, states, m, CoupleCheck::Transient) {
-        return Answer {
-            number: 10,
-            place: p,
-        };
-    }
-    if let Found::At(p) = first_wrong(file, z, RecordCheck::SameWord) {
-        return Answer {
-            number: 11,
-            place: p,
-        };
-    }
-    if let Found::At(p) = unreached(table, states, m, initial) {
-        return Answer {
-            number: 12,
-            place: p,
-        };
-    }
-    if !started(table, states, m, initial) {
-        return Answer {
-            number: 13,
-            place: 0,
-        };
-    }
-    Answer {
-        number: 0,
-        place: 0,
-    }
+    a
 }
 
 // Refusals 4 to 13. On success the table and the words are filled; after a refusal their needed elements may be anything.
-fn settle(file: &[u8], z: Sizes, m: usize, table: &mut [u8], words: &mut [u16]) -> Answer
-    requires { ⌜ Laid (now file) z × (0 < m) × (m ≤ mostSettings) × (z .states * m ≤ length (now table)) × (z .states ≤ length (now words)) ⌝ }
-    ensures judged { λ r. ⌜ Judged (soundChecks (now (file .entry)) z m) Passed r ⌝ }
-    ensures table { λ r. ⌜ Filled (z .states * m) (λ p x. r .number ≡ 0 → MoveAt (now (file .entry)) z m p x) (now (table .entry)) (now (table .exit)) ⌝ }
+fn settle(file: &[u8], z: Sizes, table: &mut [u8], words: &mut [u16]) -> Answer
+    requires { ⌜ Laid (now file) z × (couplesOf z ≤ length (now table)) × (z .states ≤ length (now words)) ⌝ }
+    ensures judged { λ r. ⌜ Judged (soundChecks (now (file .entry)) z) Passed r ⌝ }
+    ensures table { λ r. ⌜ Filled (couplesOf z) (λ p x. r .number ≡ 0 → MoveAt (now (file .entry)) z (settings z) p x) (now (table .entry)) (now (table .exit)) ⌝ }
     ensures words { λ r. ⌜ Filled (z .states) (λ s w. r .number ≡ 0 → w ≡ wordOf (now (file .entry)) z s) (now (words .entry)) (now (words .exit)) ⌝ }
 {
     let starts = starts_of(file, z);
@@ -200,13 +161,14 @@ fn settle(file: &[u8], z: Sizes, m: usize, table: &mut [u8], words: &mut [u16]) 
     }
     fill_words(file, z, words);
     let next = next_rules(file, z);
+    let m = tables::settings(z.inputs);
     if let Found::At(p) = fill_moves(file, z, &starts, &next, m, table) {
         return Answer {
             number: 8,
             place: p,
         };
     }
-    check_moves(file, z, m, table)
+    check_moves(z, table, words)
 }
 
 fn blank_table(table: &mut [u8], count: usize)
@@ -228,13 +190,13 @@ fn blank_words(words: &mut [u16], count: usize)
 }
 
 // Refusals 4 to 13, and the table and the words as they are left.
-fn read_sound(file: &[u8], z: Sizes, m: usize, table: &mut [u8], words: &mut [u16]) -> Answer
-    requires { ⌜ Laid (now file) z × (0 < m) × (m ≤ mostSettings) × (z .states * m ≤ length (now table)) × (z .states ≤ length (now words)) ⌝ }
-    ensures { λ r. ⌜ SoundAs (now (file .entry)) z m (now (table .entry)) (now (words .entry)) r (now (table .exit)) (now (words .exit)) ⌝ }
+fn read_sound(file: &[u8], z: Sizes, table: &mut [u8], words: &mut [u16]) -> Answer
+    requires { ⌜ Laid (now file) z × (couplesOf z ≤ length (now table)) × (z .states ≤ length (now words)) ⌝ }
+    ensures { λ r. ⌜ SoundAs (now (file .entry)) z (now (table .entry)) (now (words .entry)) r (now (table .exit)) (now (words .exit)) ⌝ }
 {
-    let a = settle(file, z, m, table, words);
+    let a = settle(file, z, table, words);
     if a.number != 0 {
-        blank_table(table, z.states * m);
+        blank_table(table, couples(z));
         blank_words(words, z.states);
     }
     a
@@ -245,28 +207,48 @@ fn refusal(a: Answer) -> Contents
 {
     Contents {
         answer: a,
-        inputs: 0,
         outputs: 0,
-        states: 0,
-        initial: 0,
         evolutions: 0,
+        frame: Frame {
+            inputs: 0,
+            states: 0,
+            initial: 0,
+        },
     }
 }
 
-// What is answered of a file that passes 1 to 3: its sizes where it is sound.
-fn outcome(a: Answer, z: Sizes) -> Contents
-    ensures { λ r. ⌜ (a .number ≡ 0 → r ≡ contentsOf a z) × ((a .number ≡ 0 → ⊥) → r ≡ refusalOf a) ⌝ }
+// What is answered and handed on of a file that passes 1 to 3: its sizes and evolutions where it is sound.
+fn outcome(file: &[u8], z: Sizes, a: Answer) -> Core
+    requires { ⌜ Laid (now file) z ⌝ }
+    ensures { λ r. ⌜ OutcomeAs (now (file .entry)) z a r ⌝ }
 {
+    let from = record_at(z, z.states);
+    let text = record_at(z, z.states + z.evolutions) + texts_sum(file, z, z.states);
     if a.number != 0 {
-        return refusal(a);
+        return Core {
+            contents: refusal(a),
+            from: from,
+            text: text,
+            count: z.evolutions,
+            good: false,
+        };
     }
-    Contents {
+    let contents = Contents {
         answer: a,
-        inputs: z.inputs,
         outputs: z.outputs,
-        states: z.states,
-        initial: z.initial,
         evolutions: z.evolutions,
+        frame: Frame {
+            inputs: z.inputs,
+            states: z.states,
+            initial: z.initial,
+        },
+    };
+    Core {
+        contents: contents,
+        from: from,
+        text: text,
+        count: z.evolutions,
+        good: true,
     }
 }
 
@@ -285,12 +267,6 @@ pub(crate) fn read_core(file: &[u8], table: &mut [u8], words: &mut [u16], record
         };
     }
     let z = sizes_of(file);
-    let a = read_sound(file, z, settings(z.inputs), table, words);
-    Core {
-        contents: outcome(a, z),
-        from: record_at(z, z.states),
-        text: record_at(z, z.states + z.evolutions) + texts_sum(file, z, z.states),
-        count: z.evolutions,
-        good: a.number == 0,
-    }
+    let a = read_sound(file, z, table, words);
+    outcome(file, z, a)
 }

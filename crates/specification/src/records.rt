@@ -1,20 +1,21 @@
-// Sizes and records: refusals 2, 4, 6, 7 and 11.
+// Sizes and records: refusals 2, 4, 6 and 7.
 ghost use mathlib.Core.Path.{_≡_};
 ghost use Prim.Native.Nat.{_+_, _*_, _<_, _≤_, _^_};
 ghost use lib.ListN.{length};
 ghost use Rattle.verdict.specs.Checks.{Decides, Finds};
 ghost use Rattle.specification.specs.Limits.{mostBytes, mostOutputs};
 ghost use Rattle.specification.specs.File.{entryAt, kinds, startOf, WellFormed};
-ghost use Rattle.specification.specs.Records.{sumTo, records, recordAt, byteOf, word as wordOf, source as sourceOf, target as targetOf, textLength, sizesOf, Ranges, Sized};
-ghost use Rattle.specification.specs.Private.{Laid, Wrong};
+ghost use Rattle.specification.specs.Records.{sumTo, couples as couplesOf, records, recordAt, byteOf, word as wordOf, source as sourceOf, target as targetOf, textLength, sizesOf, Ranges, Sized};
+ghost use Rattle.specification.specs.inner.Private.{Laid, Wrong};
 use crate::EVOLUTIONS;
 use crate::OUTPUTS;
 use crate::file::first_body;
 use crate::file::length_of;
 use crate::file::two_at;
+use basics::wide;
 use machine::INPUTS;
 use machine::STATES;
-use tables::wide;
+use tables::settings;
 use verdict::Found;
 
 // The sizes of a file, and where its records begin.
@@ -27,12 +28,11 @@ pub(crate) struct Sizes {
     pub first: usize,
 }
 
-// The checks of single records: refusals 4, 6, 7 and 11.
+// The checks of single records: refusals 4, 6 and 7.
 pub(crate) enum RecordCheck {
     Beyond,
     Own,
     Twice,
-    SameWord,
 }
 
 pub(crate) fn sizes_of(file: &[u8]) -> Sizes
@@ -50,6 +50,13 @@ pub(crate) fn sizes_of(file: &[u8]) -> Sizes
     }
 }
 
+pub(crate) fn couples(z: Sizes) -> usize
+    requires { ⌜ Ranges z ⌝ }
+    ensures { λ r. ⌜ r ≡ couplesOf z ⌝ }
+{
+    z.states * settings(z.inputs)
+}
+
 // Where record r begins.
 pub(crate) fn record_at(z: Sizes, r: usize) -> usize
     requires { ⌜ recordAt z r ≤ mostBytes ⌝ }
@@ -61,7 +68,7 @@ pub(crate) fn record_at(z: Sizes, r: usize) -> usize
 // Byte k of record r.
 fn byte_of(file: &[u8], z: Sizes, r: usize, k: usize) -> usize
     requires { ⌜ (recordAt z r + k < length (now file)) × (length (now file) ≤ mostBytes) ⌝ }
-    ensures { λ t. ⌜ (t ≡ byteOf (now (file .entry)) z r k) × (t < 256) ⌝ }
+    ensures { λ t. ⌜ (t ≡ byteOf (now (file .entry)) z r k) × (t < 2 ^ 8) ⌝ }
 {
     wide(file[record_at(z, r) + k])
 }
@@ -77,7 +84,7 @@ pub(crate) fn word(file: &[u8], z: Sizes, r: usize) -> usize
 // The source of the evolution with record r.
 pub(crate) fn source(file: &[u8], z: Sizes, r: usize) -> usize
     requires { ⌜ (recordAt z r + 2 < length (now file)) × (length (now file) ≤ mostBytes) ⌝ }
-    ensures { λ t. ⌜ (t ≡ sourceOf (now (file .entry)) z r) × (t < 256) ⌝ }
+    ensures { λ t. ⌜ (t ≡ sourceOf (now (file .entry)) z r) × (t < 2 ^ 8) ⌝ }
 {
     byte_of(file, z, r, 0)
 }
@@ -85,7 +92,7 @@ pub(crate) fn source(file: &[u8], z: Sizes, r: usize) -> usize
 // The target of the evolution with record r.
 pub(crate) fn target(file: &[u8], z: Sizes, r: usize) -> usize
     requires { ⌜ (recordAt z r + 2 < length (now file)) × (length (now file) ≤ mostBytes) ⌝ }
-    ensures { λ t. ⌜ (t ≡ targetOf (now (file .entry)) z r) × (t < 256) ⌝ }
+    ensures { λ t. ⌜ (t ≡ targetOf (now (file .entry)) z r) × (t < 2 ^ 8) ⌝ }
 {
     byte_of(file, z, r, 1)
 }
@@ -93,7 +100,7 @@ pub(crate) fn target(file: &[u8], z: Sizes, r: usize) -> usize
 // The length of the condition of record r.
 pub(crate) fn text_length(file: &[u8], z: Sizes, r: usize) -> usize
     requires { ⌜ (recordAt z r + 2 < length (now file)) × (length (now file) ≤ mostBytes) ⌝ }
-    ensures { λ t. ⌜ (t ≡ textLength (now (file .entry)) z r) × (t < 256) ⌝ }
+    ensures { λ t. ⌜ (t ≡ textLength (now (file .entry)) z r) × (t < 2 ^ 8) ⌝ }
 {
     byte_of(file, z, r, 2)
 }
@@ -207,23 +214,6 @@ fn twice(file: &[u8], z: Sizes, r: usize) -> bool
     false
 }
 
-// Refusal 11 at a record.
-fn same_word(file: &[u8], z: Sizes, r: usize) -> bool
-    requires { ⌜ Laid (now file) z × (r < records z) ⌝ }
-    ensures { λ t. ⌜ Decides (Wrong (now (file .entry)) z RecordCheck.SameWord r) t ⌝ }
-{
-    if z.states <= r {
-        return false;
-    }
-    let later = word(file, z, r);
-    for q in 0..r {
-        if word(file, z, q) == later {
-            return true;
-        }
-    }
-    false
-}
-
 fn wrong(file: &[u8], z: Sizes, check: RecordCheck, r: usize) -> bool
     requires { ⌜ Laid (now file) z × (r < records z) ⌝ }
     ensures { λ t. ⌜ Decides (Wrong (now (file .entry)) z check r) t ⌝ }
@@ -232,7 +222,6 @@ fn wrong(file: &[u8], z: Sizes, check: RecordCheck, r: usize) -> bool
         RecordCheck::Beyond => beyond(file, z, r),
         RecordCheck::Own => own(file, z, r),
         RecordCheck::Twice => twice(file, z, r),
-        RecordCheck::SameWord => same_word(file, z, r),
     }
 }
 

@@ -2,14 +2,15 @@
 ghost use mathlib.Core.Path.{_≡_};
 ghost use Prim.Native.Nat.{ℕ, _+_, _*_, _<_, _≤_};
 ghost use lib.ListN.{length};
-ghost use Rattle.verdict.specs.Checks.{Decides, Finds};
+ghost use mathlib.Core.List.{[], _∷_};
+ghost use Rattle.verdict.specs.Checks.{check, Decides, Finds, Judged, Passed};
 ghost use Rattle.verdict.specs.Buffers.{Filled};
 ghost use Rattle.condition.specs.Condition.{Says};
 ghost use Rattle.machine.specs.Limits.{mostSettings};
 ghost use Rattle.specification.specs.Records.{records};
 ghost use Rattle.specification.specs.Rules.{textOf, Holds, Unreads, ruleOf, leadsTo, TwoRules};
 ghost use Rattle.specification.specs.Evolutions.{Met};
-ghost use Rattle.specification.specs.Private.{Laid, Placed, Follows, Linked, Noted};
+ghost use Rattle.specification.specs.inner.Private.{Laid, Placed, Follows, Linked, Noted};
 use crate::EVOLUTIONS;
 use crate::Evolution;
 use crate::records::Sizes;
@@ -17,9 +18,12 @@ use crate::records::record_at;
 use crate::records::source;
 use crate::records::target;
 use crate::records::text_length;
+use basics::byte;
+use basics::long;
+use basics::wide;
 use condition::Meaning;
 use machine::STATES;
-use tables::wide;
+use verdict::Answer;
 use verdict::Found;
 
 // The most records, a text each.
@@ -53,18 +57,24 @@ fn says(file: &[u8], z: Sizes, starts: &[usize; TEXTS], r: usize, v: usize) -> M
     condition::read(&file[at..end], z.inputs, v)
 }
 
-// Refusal 5: the first condition that does not read.
-pub(crate) fn first_unread(file: &[u8], z: Sizes, starts: &[usize; TEXTS]) -> Found
+// Refusal 5.
+pub(crate) fn check_texts(file: &[u8], z: Sizes, starts: &[usize; TEXTS]) -> Answer
     requires { ⌜ Placed (now file) z (now starts) ⌝ }
-    ensures { λ t. ⌜ Finds (Unreads (now (file .entry)) z) t ⌝ }
+    ensures { λ t. ⌜ Judged (check 5 (Unreads (now (file .entry)) z) ∷ []) Passed t ⌝ }
 {
     let count = z.states + z.evolutions;
     for r in 0..count {
         let Meaning::Is(_) = says(file, z, starts, r, 0) else {
-            return Found::At(r);
+            return Answer {
+                number: 5,
+                place: r,
+            };
         };
     }
-    Found::Nothing
+    Answer {
+        number: 0,
+        place: 0,
+    }
 }
 
 // Whether the condition of record r holds at the setting v.
@@ -95,9 +105,9 @@ fn leads_to(file: &[u8], z: Sizes, r: usize) -> u8
     ensures { λ t. ⌜ t ≡ leadsTo (now (file .entry)) z r ⌝ }
 {
     if r < z.states {
-        return r as u8;
+        return byte(r);
     }
-    target(file, z, r) as u8
+    byte(target(file, z, r))
 }
 
 // The next rule, after record r, of the state that r is a rule of; the number of records where there is none.
@@ -146,19 +156,20 @@ pub(crate) fn fill_moves(
     let mut found = Found::Nothing;
     'search: for s in 0..states {
         for v in 0..m {
+            let p = s * m + v;
             let mut to = BLANK_MOVE;
             let mut r = s;
             while r < count {
                 if rule_holds(file, z, starts, r, v) {
                     if to != BLANK_MOVE {
-                        found = Found::At(s * m + v);
+                        found = Found::At(p);
                         break 'search;
                     }
                     to = leads_to(file, z, r);
                 }
                 r = next[r];
             }
-            table[s * m + v] = to;
+            table[p] = to;
         }
     }
     found
@@ -168,7 +179,7 @@ pub(crate) fn fill_moves(
 pub(crate) fn met(file: &[u8], e: Evolution, inputs: usize, setting: usize) -> bool
     ensures { λ r. ⌜ Decides (Met (now (file .entry)) e inputs setting) r ⌝ }
 {
-    let at = e.at as usize;
+    let at = long(e.at);
     let end = at + wide(e.length);
     if file.len() < end {
         return false;

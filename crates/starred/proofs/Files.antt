@@ -12,9 +12,9 @@ use Rattle.machine.specs.Moves.{Reached, start, step, tableMoves}
 use Rattle.machine.proofs.Tests.{every}
 use Rattle.specification.specs.File.{startOf}
 use Rattle.specification.specs.Records.{sumTo}
-use Rattle.specification.specs.Rules.{ruleOf, leadsTo}
-use Rattle.starred.specs.Files.{lampFile, twoRulesFile, gateFile}
-use Rattle.starred.specs.Rows.{lampTable, gateTable, TableOf, Answered}
+use Rattle.specification.specs.Rules.{ruleOf, leadsTo, TableOf}
+use Rattle.starred.specs.Files.{lampWith, lampFile, twoRulesFile, gateFile}
+use Rattle.starred.specs.Rows.{lampTable, gateTable, Answered}
 use Rattle.starred.proofs.Machines.{lamp-sound, gate-sound}
 use Rattle.starred.proofs.Records.{none-same}
 use Rattle.starred.proofs.Rules.{spelling, fires, none-two, Ruled, ruled}
@@ -32,16 +32,16 @@ abbrev lamp-trees : List (Tree condition)
 lamp-trees = unlit ∷ lit ∷ lit ∷ unlit ∷ []
 
 lamp-spelt : spelling lampFile lamp-trees ≡ true
-unfolding spelling lampFile startOf sumTo lit unlit text opened every
+unfolding spelling lampWith startOf sumTo lit unlit text opened every
 lamp-spelt = refl
 
 lamp-shaped : Shaped lampFile
-unfolding lampFile startOf sumTo every
+unfolding lampWith startOf sumTo every
 lamp-shaped = shape lampFile lamp-trees lamp-spelt refl refl refl refl
 
 -- state 0 rests by record 0 and moves by record 2, state 1 moves by record 3 and rests by record 1
 lamp-ruled : Ruled lampFile lampTable
-unfolding lampFile lampTable startOf lit unlit holds ruleOf leadsTo every
+unfolding lampWith lampTable startOf lit unlit holds ruleOf leadsTo every
 lamp-ruled = ruled lampFile lamp-trees lamp-spelt (0 ∷ 2 ∷ 3 ∷ 1 ∷ []) lampTable refl refl refl (lamp-sound .closed)
 
 lamp-reached : (s : ℕ) → s < 2 → Reached (tableMoves lampTable 2) 2 0 s
@@ -50,29 +50,29 @@ lamp-reached zero h = start
 lamp-reached (suc zero) h = step 1 start (lit< tt) refl
 lamp-reached (suc (suc s)) h = absurd (omega arith)
 
-pub lamp-read : TableOf lampFile lampTable
-unfolding lampFile lampTable startOf every
-lamp-read = record {
-  read = succeeds lamp-shaped lamp-sound lamp-ruled (none-same lampFile refl) lamp-reached (record { v = 0; below = lit< tt; rests = refl });
-  count = refl;
-  moves = lamp-ruled .moves;
-}
+pub lamp-read : Answered lampFile 0 0
+unfolding lampWith lampTable startOf every
+lamp-read = succeeds lamp-shaped lamp-sound lamp-ruled (none-same lampFile refl) lamp-reached 0 (record { below = lit< tt; rests = refl; allowed = tt })
+
+pub lamp-table : TableOf lampFile lampTable
+unfolding lampWith lampTable startOf
+lamp-table = record { whole = refl; each = lamp-ruled .moves }
 
 -- the lamp with `1` as the rest of state 0
 abbrev two-trees : List (Tree condition)
 two-trees = one (one on) ∷ lit ∷ lit ∷ unlit ∷ []
 
 two-spelt : spelling twoRulesFile two-trees ≡ true
-unfolding spelling twoRulesFile startOf sumTo lit unlit text opened every
+unfolding spelling lampWith startOf sumTo lit unlit text opened every
 two-spelt = refl
 
 two-shaped : Shaped twoRulesFile
-unfolding twoRulesFile startOf sumTo every
+unfolding lampWith startOf sumTo every
 two-shaped = shape twoRulesFile two-trees two-spelt refl refl refl refl
 
 -- at couple 0 record 0 alone holds, at couple 1 records 0 and 2 do
 pub two-refused : Answered twoRulesFile 8 1
-unfolding twoRulesFile startOf lit unlit holds ruleOf every
+unfolding lampWith startOf lit unlit holds ruleOf every
 two-refused = shaped two-shaped (halt (record {
   here = record {
     s = 0;
@@ -138,10 +138,10 @@ gate-reached (suc zero) h = step 0 start (lit< tt) refl
 gate-reached (suc (suc zero)) h = step 1 start (lit< tt) refl
 gate-reached (suc (suc (suc s))) h = absurd (omega arith)
 
-pub gate-read : TableOf gateFile gateTable
+pub gate-read : Answered gateFile 0 0
 unfolding gateFile gateTable startOf every
-gate-read = record {
-  read = succeeds gate-shaped gate-sound gate-ruled (none-same gateFile refl) gate-reached (record { v = 5; below = lit< tt; rests = refl });
-  count = refl;
-  moves = gate-ruled .moves;
-}
+gate-read = succeeds gate-shaped gate-sound gate-ruled (none-same gateFile refl) gate-reached 5 (record { below = lit< tt; rests = refl; allowed = tt })
+
+pub gate-moves : TableOf gateFile gateTable
+unfolding gateFile gateTable startOf
+gate-moves = record { whole = refl; each = gate-ruled .moves }

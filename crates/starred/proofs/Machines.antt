@@ -1,18 +1,19 @@
--- The ranks and parents of the lamp and of the gate, by computing rounds of marking until one finds no couple.
+-- The ranks and parents of the lamp and of the gate: given lists pass the test of a certificate.
 use mathlib.Core.Path.{_≡_, refl}
 use mathlib.Core.Logic.{inl, inr}
 use mathlib.Core.List.{List, [], _∷_}
-use mathlib.Core.Bool.{Bool, true, not}
-use Prim.Native.Nat.{ℕ, _*_, _^_, _≤_, _<_}
+use mathlib.Core.Bool.{Bool, true}
+use Prim.Native.Nat.{ℕ, _<_}
 use native.Mathlib.Omega.{arith}
 use lib.ListN.{getD}
 use lib.Dec.{eqb, ltb, lit<, lit≤}
 use Rattle.machine.specs.Limits.{unmarked}
-use Rattle.machine.specs.Flips.{flipped}
-use Rattle.machine.specs.Runs.{Machine, machine, size, couples, move, Sound, Marked, Rank, RankOrUnmarked}
-use Rattle.machine.specs.Model.{Listed, gave, changed, expanded, turned, rounded, started, marks}
-use Rattle.machine.proofs.Tests.{told-holds, told-equal, told-below, told-not, every, told-every}
-use Rattle.machine.proofs.Marking.{marks-listed}
+use Rattle.machine.specs.Couples.{differing}
+use Rattle.machine.specs.Runs.{Machine, size, couples, move, Sound, Marked, Rank, RankOrUnmarked}
+use Rattle.machine.specs.inner.Model.{Listed}
+use Rattle.verdict.proofs.Tests.{decides-equal, decides-below}
+use Rattle.machine.proofs.Tests.{every, decides-every, starts, changes, steps}
+use Rattle.machine.proofs.Certificate.{right, by-test}
 use Rattle.starred.specs.Rows.{lampTable, gateTable, lamp, gate}
 
 module _ (m : Machine) where
@@ -25,10 +26,10 @@ module _ (m : Machine) where
   sound : m .initial < m .states → closed ≡ true → calm ≡ true → Sound m
   unfolding closed calm
   sound b e f =
-      let each = told-holds (told-every (m .states) _ (λ s. (v : ℕ) → v < size m → move m (move m s v) v ≡ move m s v) (λ s. told-every (size m) _ _ (λ v. told-equal _ _))) f in
+      let each = decides-every (m .states) _ (λ s. (v : ℕ) → v < size m → move m (move m s v) v ≡ move m s v) (λ s. decides-every (size m) _ _ (λ v. decides-equal _ _)) .holds f in
       record {
         begins = b;
-        closed = told-holds (told-every (couples m) _ _ (λ c. told-below _ _)) e;
+        closed = decides-every (couples m) _ _ (λ c. decides-below _ _) .holds e;
         calm = λ s v h k. each s h v k;
       }
 
@@ -41,21 +42,13 @@ pub not-marked : {m : Machine} {c : ℕ} → RankOrUnmarked m c unmarked → Mar
 not-marked (inl r) = absurd (omega arith)
 not-marked (inr n) = n .1
 
--- the lists after k rounds, where no rank is k
-module _ (n states initial : ℕ) (T : List ℕ) where
-  by-rounds : Sound (machine n states initial T) → states * 2 ^ n ≤ unmarked → (k : ℕ) → k < unmarked
-      → every (states * 2 ^ n) (λ c. not (eqb (getD (marks n states initial T k .ranks) c 0) k)) ≡ true
-      → Listed (machine n states initial T) (marks n states initial T k .ranks) (marks n states initial T k .parents)
-  by-rounds ok few k h e = marks-listed n states initial T ok few k h
-      (told-holds (told-every (states * 2 ^ n) _ (λ c. getD (marks n states initial T k .ranks) c 0 ≡ k → ⊥) (λ c. told-not (told-equal _ _))) e)
-
 pub lamp-sound : Sound lamp
 unfolding lampTable closed calm every
 lamp-sound = sound lamp (lit< tt) refl refl
 
 pub lamp-listed : Listed lamp (0 ∷ 1 ∷ 2 ∷ 1 ∷ []) (0 ∷ 0 ∷ 3 ∷ 0 ∷ [])
-unfolding lampTable every marks started rounded turned expanded changed gave flipped
-lamp-listed = by-rounds 1 2 0 lampTable lamp-sound (lit≤ tt) 3 (lit< tt) refl
+unfolding lampTable every right starts changes steps differing
+lamp-listed = by-test lamp _ _ lamp-sound (lit≤ tt) refl
 
 pub gate-sound : Sound gate
 unfolding gateTable closed calm every
@@ -74,5 +67,5 @@ gate-parents =
     ∷ 33 ∷ 5 ∷ 6 ∷ 7 ∷ 32 ∷ 33 ∷ 34 ∷ 35 ∷ 42 ∷ 33 ∷ 8 ∷ 9 ∷ 40 ∷ 41 ∷ 42 ∷ 43 ∷ []
 
 pub gate-listed : Listed gate gate-ranks gate-parents
-unfolding gateTable every marks started rounded turned expanded changed gave flipped
-gate-listed = by-rounds 4 3 0 gateTable gate-sound (lit≤ tt) 4 (lit< tt) refl
+unfolding gateTable every right starts changes steps differing
+gate-listed = by-test gate _ _ gate-sound (lit≤ tt) refl

@@ -1,20 +1,21 @@
 -- The verdict of reading a file, from its parts: what passes checks 1 to 7; and with the one rule of each couple, a sound table, its
 -- states reached and a start, what is read with success.
 use mathlib.Core.Path.{_≡_, subst}
-use mathlib.Core.List.{List, [], _∷_}
+use mathlib.Core.List.{List, _++_}
 use Prim.Native.Nat.{ℕ, _<_}
 use lib.ListN.{take}
 use mathlib.Core.Bool.{true}
 use Rattle.condition.specs.Grammar.{condition, Tree}
-use Rattle.verdict.specs.Checks.{None, Check, check, Unless, Passed, Judged}
+use Rattle.verdict.specs.Checks.{None, Passed, Judged}
 use Rattle.verdict.proofs.Tests.{meets}
 use Rattle.verdict.proofs.Order.{pass, ends, long}
-use Rattle.machine.specs.Moves.{tableMoves, Transient, Reached, Unreached, Start}
-use Rattle.machine.specs.Runs.{machine, Sound}
+use Rattle.machine.specs.Moves.{tableMoves, Transient, SameWord, Reached, Start}
+use Rattle.machine.specs.Runs.{machineOf, Sound}
 use Rattle.machine.proofs.Same.{transient-into, reached-into, start-into}
 use Rattle.specification.specs.File.{mark, WellFormed}
-use Rattle.specification.specs.Records.{sizesOf, settings, records, Sized, Beyond, Own, Twice, SameWord}
-use Rattle.specification.specs.Rules.{Unreads, TwoRules, NoRule, Moves}
+use Rattle.specification.specs.Records.{sizesOf, frameOf, settings, word, Sized, Beyond, Own, Twice}
+use Rattle.specification.specs.Rules.{Unreads, Moves, MayStart}
+use Rattle.specification.specs.Reading.{ruleChecks, moveChecks}
 use Rattle.starred.specs.Rows.{Answered}
 use Rattle.starred.proofs.Records.{formed, well-formed, ranged, sized, recorded, record-checks}
 use Rattle.starred.proofs.Rules.{spelling, none-unread, Ruled}
@@ -35,24 +36,13 @@ shape file trees spelt marked e f g =
     let x = record-checks file g in
     record { formed = well-formed file marked e; sized = sized file f; inside = x .0; read = none-unread file trees spelt; changes = x .1; once = x .2 }
 
--- the checks after 7
-abbrev pub later : List ℕ → List Check
-later file =
-    check 8 (TwoRules file (sizesOf file) (settings (sizesOf file)))
-    ∷ check 9 (NoRule file (sizesOf file) (settings (sizesOf file)))
-    ∷ check 10 (Transient (Moves file (sizesOf file)) (sizesOf file .states) (settings (sizesOf file)))
-    ∷ check 11 (SameWord file (sizesOf file))
-    ∷ check 12 (Unreached (Moves file (sizesOf file)) (sizesOf file .states) (settings (sizesOf file)) (sizesOf file .initial))
-    ∷ check 13 (Unless (Start (Moves file (sizesOf file)) (settings (sizesOf file)) (sizesOf file .initial)))
-    ∷ []
-
 module _ {file : List ℕ} (x : Shaped file) where
-  pub shaped : {number place : ℕ} → Judged (later file) Passed (record { number = number; place = place }) → Answered file number place
+  pub shaped : {number place : ℕ} → Judged (ruleChecks file (sizesOf file) ++ moveChecks file (sizesOf file)) Passed (record { number = number; place = place }) → Answered file number place
   shaped v table words records a b c =
       pass (meets (x .formed)) (pass (meets (x .sized)) (pass (long a) (pass (long b) (pass (long c)
       (pass (x .inside) (pass (x .read) (pass (x .changes) (pass (x .once) v))))))))
 
-  module _ {T : List ℕ} (ok : Sound (machine (sizesOf file .inputs) (sizesOf file .states) (sizesOf file .initial) T)) (rules : Ruled file T) where
+  module _ {T : List ℕ} (ok : Sound (machineOf (frameOf (sizesOf file)) T)) (rules : Ruled file T) where
     calm : None (Transient (Moves file (sizesOf file)) (sizesOf file .states) (settings (sizesOf file)))
     calm = record {
       nowhere = λ p f.
@@ -60,8 +50,8 @@ module _ {file : List ℕ} (x : Shaped file) where
           y .unrest (subst (λ t. tableMoves T (settings (sizesOf file)) t (y .v) t) (y .moves) (ok .calm (y .s) (y .v) (y .couple .state) (y .couple .setting)));
     }
 
-    pub succeeds : None (SameWord file (sizesOf file)) → ((s : ℕ) → s < sizesOf file .states → Reached (tableMoves T (settings (sizesOf file))) (settings (sizesOf file)) (sizesOf file .initial) s)
-        → Start (tableMoves T (settings (sizesOf file))) (settings (sizesOf file)) (sizesOf file .initial) → Answered file 0 0
-    succeeds same reached start = shaped (pass (rules .once) (pass (rules .always) (pass calm (pass same (pass
+    pub succeeds : None (SameWord (word file (sizesOf file)) (sizesOf file .states)) → ((s : ℕ) → s < sizesOf file .states → Reached (tableMoves T (settings (sizesOf file))) (settings (sizesOf file)) (sizesOf file .initial) s)
+        → (v : ℕ) → Start (tableMoves T (settings (sizesOf file))) (MayStart file (sizesOf file)) (settings (sizesOf file)) (sizesOf file .initial) v → Answered file 0 0
+    succeeds same reached v start = shaped (pass (rules .once) (pass (rules .always) (pass calm (pass same (pass
         (record { nowhere = λ s f. f .never (reached-into (rules .from) (ok .begins) (reached s (f .state)) .1) })
-        (pass (meets (start-into (rules .from) (ok .begins) start)) ends))))))
+        (pass (meets (v, start-into (rules .from) (λ h. h) (ok .begins) start)) ends))))))

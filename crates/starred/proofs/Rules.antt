@@ -1,25 +1,25 @@
 -- A file for which the tree of each text is given: a text has one tree, so that which rules hold at a couple is computed, and with it
 -- the moves and refusals 8 and 9.
 use mathlib.Core.Path.{_≡_, refl, sym, ap, ap₂, subst, subst₂, _∙_}
-use mathlib.Core.Logic.{inl, inr}
 use mathlib.Core.List.{List, [], _∷_}
-use mathlib.Core.Bool.{Bool, true, false, _&&_}
+use mathlib.Core.Bool.{Bool, true, false, _&&_, cond}
 use Prim.Native.Nat.{ℕ, _/_, _%_, _<_}
 use native.Mathlib.Omega.{arith}
 use lib.ListN.{getD}
 use lib.Dec.{eqb, leb, ltb}
 use lib.Arith.{digits-div, digits-mod}
 use borrow.Author.Tests.{eqb-true, eq-eqb, leb-true, ltb-true}
-use Rattle.verdict.specs.Checks.{None}
+use Rattle.verdict.specs.Checks.{Decides, None}
 use Rattle.condition.specs.Grammar.{Level, condition, Tree, one, more, bang, paren, off, on, input, text, opened, Below, holds}
 use Rattle.condition.specs.Condition.{parentheses, Reads}
 use Rattle.condition.proofs.Trees.{one-tree}
-use Rattle.machine.specs.Lists.{pick}
+use Rattle.machine.specs.Limits.{mostInputs}
 use Rattle.machine.specs.Couples.{coupleAt, Couple}
 use Rattle.machine.specs.Moves.{tableMoves}
 use Rattle.machine.proofs.Couples.{couple-below}
 use Rattle.machine.proofs.Same.{Into}
-use Rattle.machine.proofs.Tests.{Told, told-holds, told-by, told-true, told-equal, told-below, told-both, every, told-every, unlike}
+use Rattle.verdict.proofs.Tests.{true≢false, it-holds, it-fails, decides-map, decides-true, decides-equal, decides-below, decides-both, decides-is}
+use Rattle.machine.proofs.Tests.{every, decides-every}
 use Rattle.specification.specs.Records.{sizesOf, settings, couples, records}
 use Rattle.specification.specs.Rules.{textOf, ruleOf, leadsTo, Unreads, Fires, TwoRules, NoRule, Moves, MoveAt}
 
@@ -29,20 +29,15 @@ same true b = b
 same false true = false
 same false false = true
 
-told-same : (a b : Bool) → Told (same a b) (a ≡ b)
-told-same true true = inl (refl, refl)
-told-same true false = inr (refl, λ e. unlike e)
-told-same false true = inr (refl, λ e. unlike (sym e))
-told-same false false = inl (refl, refl)
+decides-same : (a b : Bool) → Decides (a ≡ b) (same a b)
+decides-same true b = decides-map sym sym (decides-true b)
+decides-same false true = it-fails (λ e. true≢false (sym e))
+decides-same false false = it-holds refl
 
 both : (a b : Bool) → a && b ≡ true → (a ≡ true) × (b ≡ true)
 both true true e = (refl, refl)
-both true false e = unlike (sym e)
-both false b e = unlike (sym e)
-
-told-is : {b : Bool} {P : Type 0} → Told b P → P → b ≡ true
-told-is (inl x) p = x .0
-told-is (inr x) p = absurd (x .1 p)
+both true false e = absurd (true≢false (sym e))
+both false b e = absurd (true≢false (sym e))
 
 -- two texts are one
 sameText : List ℕ → List ℕ → Bool
@@ -54,11 +49,11 @@ sameText (x ∷ xs) (y ∷ ys) = eqb x y && sameText xs ys
 one-text : (xs ys : List ℕ) → sameText xs ys ≡ true → xs ≡ ys
 unfolding sameText
 one-text [] [] e = refl
-one-text [] (y ∷ ys) e = unlike (sym e)
-one-text (x ∷ xs) [] e = unlike (sym e)
+one-text [] (y ∷ ys) e = absurd (true≢false (sym e))
+one-text (x ∷ xs) [] e = absurd (true≢false (sym e))
 one-text (x ∷ xs) (y ∷ ys) e = let (f, g) = both (eqb x y) (sameText xs ys) e in ap₂ _∷_ (eqb-true x y f) (one-text xs ys g)
 
--- each letter of a tree is below n
+-- each letter of a tree is below n, and one of a to h
 lettersBelow : {l : Level} → ℕ → Tree l → Bool
 lettersBelow n (one t) = lettersBelow n t
 lettersBelow n (more t u) = lettersBelow n t && lettersBelow n u
@@ -66,7 +61,7 @@ lettersBelow n (bang t) = lettersBelow n t
 lettersBelow n (paren t) = lettersBelow n t
 lettersBelow n off = true
 lettersBelow n on = true
-lettersBelow n (input k) = ltb k n
+lettersBelow n (input k) = ltb k n && ltb k mostInputs
 
 letters-below : {l : Level} (n : ℕ) (t : Tree l) → lettersBelow n t ≡ true → Below n t
 unfolding lettersBelow Below
@@ -76,7 +71,7 @@ letters-below n (bang t) e = letters-below n t e
 letters-below n (paren t) e = letters-below n t e
 letters-below n off e = tt
 letters-below n on e = tt
-letters-below n (input k) e = ltb-true k n e
+letters-below n (input k) e = let (f, g) = both (ltb k n) (ltb k mostInputs) e in (ltb-true k n f, ltb-true k mostInputs g)
 
 -- at each couple of a file one rule holds, and leads to the state that a table has there
 pub record Ruled (file T : List ℕ) : Type 0 where
@@ -102,13 +97,13 @@ module _ (file : List ℕ) where
   module _ (trees : List (Tree condition)) where
     -- record r is a rule of s, and its tree holds at v
     abbrev pub firing : ℕ → ℕ → ℕ → Bool
-    firing s v r = pick (eqb (ruleOf file (sizesOf file) r) s) (holds v (treeOf trees r)) false
+    firing s v r = cond (eqb (ruleOf file (sizesOf file) r) s) (holds v (treeOf trees r)) false
 
     module _ (spelt : spelling trees ≡ true) where
       reads : (r : ℕ) → r < records (sizesOf file) → Reads (sizesOf file .inputs) (textOf file (sizesOf file) r)
       unfolding spelling
       reads r h =
-          let (e, k) = both _ _ (told-holds (told-every (records (sizesOf file)) _ _ (λ r. told-true _)) spelt r h) in
+          let (e, k) = both _ _ (decides-every (records (sizesOf file)) _ _ (λ r. decides-true _) .holds spelt r h) in
           let (t, o) = both _ _ e in
           record { tree = treeOf trees r; spelt = one-text _ _ t; nested = leb-true _ _ o; known = letters-below (sizesOf file .inputs) (treeOf trees r) k }
 
@@ -116,22 +111,22 @@ module _ (file : List ℕ) where
       pub none-unread : None (Unreads file (sizesOf file))
       none-unread = record { nowhere = λ r x. x .unread (reads r (x .below)) }
 
-      told-fires : (s v r : ℕ) → r < records (sizesOf file) → Told (firing s v r) (Fires file (sizesOf file) s v r)
+      decides-fires : (s v r : ℕ) → r < records (sizesOf file) → Decides (Fires file (sizesOf file) s v r) (firing s v r)
       unfolding reads
-      told-fires s v r h = told-by
+      decides-fires s v r h = decides-map
           (λ x. record { below = h; rule = x .0; holds = record { reads = reads r h; true-there = x .1 } })
           (λ x. (x .rule, ap (λ t. holds v t) (one-tree _ _ ((reads r h) .spelt ∙ sym (x .holds .reads .spelt))) ∙ x .holds .true-there))
-          (told-both (told-equal _ _) (told-true (holds v (treeOf trees r))))
+          (decides-both (decides-equal _ _) (decides-true (holds v (treeOf trees r))))
 
       pub fires : (s v r : ℕ) → r < records (sizesOf file) → firing s v r ≡ true → Fires file (sizesOf file) s v r
-      fires s v r h = told-holds (told-fires s v r h)
+      fires s v r h = decides-fires s v r h .holds
 
       -- for each of the first k couples the one rule that holds there
       module _ (k : ℕ) (rules : List ℕ)
           (exactly : every k (λ p. every (records (sizesOf file)) (λ r. same (firing (p / m) (p % m) r) (eqb r (getD rules p 0)))) ≡ true) where
         exact : (p : ℕ) → p < k → (r : ℕ) → r < records (sizesOf file) → firing (p / m) (p % m) r ≡ eqb r (getD rules p 0)
-        exact = told-holds (told-every k _ (λ p. (r : ℕ) → r < records (sizesOf file) → firing (p / m) (p % m) r ≡ eqb r (getD rules p 0))
-            (λ p. told-every (records (sizesOf file)) _ _ (λ r. told-same _ _))) exactly
+        exact = decides-every k _ (λ p. (r : ℕ) → r < records (sizesOf file) → firing (p / m) (p % m) r ≡ eqb r (getD rules p 0))
+            (λ p. decides-every (records (sizesOf file)) _ _ (λ r. decides-same _ _)) .holds exactly
 
         -- a couple is that of its quotient and remainder
         here : (s v p r : ℕ) → Couple (sizesOf file .states) m s v p → Fires file (sizesOf file) s v r → Fires file (sizesOf file) (p / m) (p % m) r
@@ -143,7 +138,7 @@ module _ (file : List ℕ) where
             (ap (_/ m) (c .number) ∙ digits-div s (c .setting)) (ap (_% m) (c .number) ∙ digits-mod s (c .setting)) x
 
         the-rule : (s v p r : ℕ) → Couple (sizesOf file .states) m s v p → p < k → Fires file (sizesOf file) s v r → r ≡ getD rules p 0
-        the-rule s v p r c h x = eqb-true _ _ (sym (exact p h r (x .below)) ∙ told-is (told-fires _ _ r (x .below)) (here s v p r c x))
+        the-rule s v p r c h x = eqb-true _ _ (sym (exact p h r (x .below)) ∙ decides-is (decides-fires _ _ r (x .below)) (here s v p r c x))
 
         -- refusal 8 at none of them
         pub none-two : (p : ℕ) → p < k → TwoRules file (sizesOf file) m p → ⊥
@@ -159,12 +154,12 @@ module _ (file : List ℕ) where
           (leading : every (couples (sizesOf file)) (λ p. eqb (leadsTo file (sizesOf file) (getD rules p 0)) (getD T p 0)) ≡ true)
           (closed : (p : ℕ) → p < couples (sizesOf file) → getD T p 0 < sizesOf file .states) where
         leads : (p : ℕ) → p < couples (sizesOf file) → leadsTo file (sizesOf file) (getD rules p 0) ≡ getD T p 0
-        leads = told-holds (told-every (couples (sizesOf file)) _ _ (λ p. told-equal _ _)) leading
+        leads = decides-every (couples (sizesOf file)) _ _ (λ p. decides-equal _ _) .holds leading
 
         holding : {s v p : ℕ} → Couple (sizesOf file .states) m s v p → Fires file (sizesOf file) s v (getD rules p 0)
         holding {s} {v} {p} c =
             let h = couple-below c in
-            let l = told-holds (told-every (couples (sizesOf file)) _ (λ p. getD rules p 0 < records (sizesOf file)) (λ p. told-below _ _)) ranged p h in
+            let l = decides-every (couples (sizesOf file)) _ (λ p. getD rules p 0 < records (sizesOf file)) (λ p. decides-below _ _) .holds ranged p h in
             there (couples (sizesOf file)) rules exactly s v p (getD rules p 0) c (fires _ _ (getD rules p 0) l (exact (couples (sizesOf file)) rules exactly p h (getD rules p 0) l ∙ eq-eqb (getD rules p 0) (getD rules p 0) refl))
 
         at : {s v : ℕ} → s < sizesOf file .states → v < m → Couple (sizesOf file .states) m s v (coupleAt m s v)

@@ -1,49 +1,42 @@
 -- The specification files of document 01's examples, byte by byte. Assumes nothing: these are definitions.
 use mathlib.Core.List.{List, [], _∷_, _++_}
-use Prim.Native.Nat.{ℕ}
+use Prim.Native.Nat.{ℕ, _+_}
+use lib.ListN.{length}
 use Prim.Native.String.{String}
-use Rattle.condition.specs.Grammar.{bytes}
+use Rattle.basics.specs.Texts.{letters}
 
 -- texts end to end
 abbrev pub texts : List String → List ℕ
 texts [] = []
-texts (t ∷ ts) = bytes t ++ texts ts
+texts (t ∷ ts) = letters t ++ texts ts
 
--- the lamp: the mark and the count; kind, offset and length of each body; inputs, outputs, states, initial state; of each state the
--- word and the length of its rest condition; of each evolution source, target and length of its condition; the conditions
-unfoldable pub lampFile : List ℕ
-lampFile =
-    bytes "SEQ1" ++ (4
+-- the lamp with a text as the rest of state 0: the mark and the count; kind, offset and length of each body; inputs, outputs, states,
+-- initial state; of each state the word and the length of its rest condition; of each evolution source, target and length of its
+-- condition; the conditions
+unfoldable pub lampWith : String → List ℕ
+lampWith rest =
+    letters "SEQ1" ++ (4
     ∷ 1 ∷ 25 ∷ 0 ∷ 4 ∷ 0
     ∷ 2 ∷ 29 ∷ 0 ∷ 6 ∷ 0
     ∷ 3 ∷ 35 ∷ 0 ∷ 6 ∷ 0
-    ∷ 4 ∷ 41 ∷ 0 ∷ 6 ∷ 0
+    ∷ 4 ∷ 41 ∷ 0 ∷ (4 + length (letters rest)) ∷ 0
     ∷ 1 ∷ 1 ∷ 2 ∷ 0
-    ∷ 0 ∷ 0 ∷ 2
+    ∷ 0 ∷ 0 ∷ length (letters rest)
     ∷ 1 ∷ 0 ∷ 1
     ∷ 0 ∷ 1 ∷ 1
     ∷ 1 ∷ 0 ∷ 2
-    ∷ texts ("!a" ∷ "a" ∷ "a" ∷ "!a" ∷ []))
+    ∷ texts (rest ∷ "a" ∷ "a" ∷ "!a" ∷ []))
 
--- the lamp with `1` as the rest of state 0: a byte less
-unfoldable pub twoRulesFile : List ℕ
-twoRulesFile =
-    bytes "SEQ1" ++ (4
-    ∷ 1 ∷ 25 ∷ 0 ∷ 4 ∷ 0
-    ∷ 2 ∷ 29 ∷ 0 ∷ 6 ∷ 0
-    ∷ 3 ∷ 35 ∷ 0 ∷ 6 ∷ 0
-    ∷ 4 ∷ 41 ∷ 0 ∷ 5 ∷ 0
-    ∷ 1 ∷ 1 ∷ 2 ∷ 0
-    ∷ 0 ∷ 0 ∷ 1
-    ∷ 1 ∷ 0 ∷ 1
-    ∷ 0 ∷ 1 ∷ 1
-    ∷ 1 ∷ 0 ∷ 2
-    ∷ texts ("1" ∷ "a" ∷ "a" ∷ "!a" ∷ []))
+abbrev pub lampFile : List ℕ
+lampFile = lampWith "!a"
+
+abbrev pub twoRulesFile : List ℕ
+twoRulesFile = lampWith "1"
 
 -- the gate
 unfoldable pub gateFile : List ℕ
 gateFile =
-    bytes "SEQ1" ++ (4
+    letters "SEQ1" ++ (4
     ∷ 1 ∷ 25 ∷ 0 ∷ 4 ∷ 0
     ∷ 2 ∷ 29 ∷ 0 ∷ 9 ∷ 0
     ∷ 3 ∷ 38 ∷ 0 ∷ 18 ∷ 0

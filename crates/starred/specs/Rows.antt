@@ -2,19 +2,18 @@
 use mathlib.Core.Path.{_≡_}
 use mathlib.Core.Bool.{true, false}
 use mathlib.Core.List.{List, [], _∷_}
-use Prim.Native.Nat.{ℕ, _≤_, _<_}
-use lib.ListN.{length, getD}
+use Prim.Native.Nat.{ℕ, _≤_}
+use lib.ListN.{getD}
+use Rattle.basics.specs.Texts.{letters}
 use Rattle.verdict.specs.Checks.{Passed, Judged}
-use Rattle.condition.specs.Grammar.{bytes}
 use Rattle.condition.specs.Condition.{Says}
 use Rattle.condition.specs.declared.Meaning.the-variants.{Is}
-use Rattle.machine.specs.Runs.{Machine, machine, couples, Rank}
+use Rattle.machine.specs.Runs.{Machine, machineOf, couples, RanksOf}
 use Rattle.machine.specs.Shortest.{RunTo}
-use Rattle.machine.specs.Plans.{Plan, stored}
-use Rattle.specification.specs.Records.{sizesOf, settings, couples as couplesOf}
-use Rattle.specification.specs.Rules.{MoveAt}
+use Rattle.specification.specs.Records.{sizesOf, couples as couplesOf}
+use Rattle.specification.specs.Rules.{TableOf}
 use Rattle.specification.specs.Reading.{fileChecks}
-use Rattle.plan.specs.Planning.{runChecks, RunDone}
+use Rattle.plan.specs.Planning.{PlanBytes, runChecks, RunDone}
 use Rattle.starred.specs.Files.{lampFile, twoRulesFile, gateFile}
 
 -- reading a file answers so, wherever there is room for its table, words and records
@@ -22,23 +21,6 @@ abbrev pub Answered : List ℕ → ℕ → ℕ → Type 0
 Answered file number place =
     (table words records : ℕ) → couplesOf (sizesOf file) ≤ table → sizesOf file .states ≤ words → sizesOf file .evolutions ≤ records
     → Judged (fileChecks file table words records) Passed (record { number = number; place = place })
-
--- a file is read with success, and its moves are those of a table
-pub record TableOf (file table : List ℕ) : Type 0 where
-  pub read : Answered file 0 0
-  pub count : length table ≡ couplesOf (sizesOf file)
-  pub moves : (p : ℕ) → p < length table → MoveAt file (sizesOf file) (settings (sizesOf file)) p (getD table p 0)
-
--- the ranks of all couples, in order
-pub record RanksOf (m : Machine) (ranks : List ℕ) : Type 0 where
-  pub count : length ranks ≡ couples m
-  pub each : (c : ℕ) → c < length ranks → Rank m c (getD ranks c 0)
-
--- the bytes of the plan
-pub record PlanOf (m : Machine) (stored-form : List ℕ) : Type 0 where
-  pub runs : List (List ℕ)
-  pub plan : Plan m (couples m) runs
-  pub is : stored runs ≡ stored-form
 
 -- the run to a couple is refused so, wherever there is room for the ranks
 abbrev pub RunRefused : Machine → ℕ → ℕ → ℕ → Type 0
@@ -56,28 +38,28 @@ gateTable =
     ∷ 2 ∷ 2 ∷ 2 ∷ 2 ∷ 1 ∷ 0 ∷ 0 ∷ 0 ∷ 2 ∷ 2 ∷ 2 ∷ 2 ∷ 0 ∷ 0 ∷ 0 ∷ 0 ∷ []
 
 abbrev pub lamp : Machine
-lamp = machine 1 2 0 lampTable
+lamp = machineOf (record { inputs = 1; states = 2; initial = 0 }) lampTable
 
 abbrev pub gate : Machine
-gate = machine 4 3 0 gateTable
+gate = machineOf (record { inputs = 4; states = 3; initial = 0 }) gateTable
 
 -- a row to a field
 pub record Rows : Type 0 where
   -- lamp table: 0 1 0 1
-  pub lamp-table : TableOf lampFile lampTable
+  pub lamp-table : Answered lampFile 0 0 × TableOf lampFile lampTable
   -- lamp ranks: 0 1 2 1
   pub lamp-ranks : RanksOf lamp (0 ∷ 1 ∷ 2 ∷ 1 ∷ [])
   -- lamp plan: 1 0 0, 2 0 0 1, 3 0 0 1 0 (12 bytes)
-  pub lamp-plan : PlanOf lamp (1 ∷ 0 ∷ 0 ∷ 2 ∷ 0 ∷ 0 ∷ 1 ∷ 3 ∷ 0 ∷ 0 ∷ 1 ∷ 0 ∷ [])
+  pub lamp-plan : PlanBytes lamp (1 ∷ 0 ∷ 0 ∷ 2 ∷ 0 ∷ 0 ∷ 1 ∷ 3 ∷ 0 ∷ 0 ∷ 1 ∷ 0 ∷ [])
   -- gate, couple 4, 17, 44: moves 1, 2, 0
-  pub gate-moves : TableOf gateFile gateTable × (getD gateTable 4 0 ≡ 1) × (getD gateTable 17 0 ≡ 2) × (getD gateTable 44 0 ≡ 0)
+  pub gate-moves : Answered gateFile 0 0 × TableOf gateFile gateTable × (getD gateTable 4 0 ≡ 1) × (getD gateTable 17 0 ≡ 2) × (getD gateTable 44 0 ≡ 0)
   -- gate, run to 44: 8 10 8 12
   pub gate-run : RunTo gate 44 (8 ∷ 10 ∷ 8 ∷ 12 ∷ [])
   -- gate, couple 19: 15
   pub gate-unmarked : RunRefused gate 19 15 0
   -- `a+b.c` at setting 1 (only a on): holds
-  pub and-before-or : Says 3 1 (bytes "a+b.c") (Is true)
+  pub and-before-or : Says 3 1 (letters "a+b.c") (Is true)
   -- `!a.b` at setting 0: does not hold
-  pub not-before-and : Says 2 0 (bytes "!a.b") (Is false)
+  pub not-before-and : Says 2 0 (letters "!a.b") (Is false)
   -- lamp with `1` as the rest of state 0: 8, place 1
   pub two-rules : Answered twoRulesFile 8 1

@@ -5,18 +5,17 @@ use mathlib.Core.Bool.{Bool, true, false}
 use mathlib.Core.List.{List, [], _∷_}
 use mathlib.Core.Logic.{⊎-elim}
 use Prim.Native.Nat.{ℕ, zero, suc, _+_, _*_, _/_, _%_, _-_, _≤_, _<_}
-use native.Mathlib.Nat.{not-suc-le-zero, le-of-suc-le-suc, eq-or-lt-of-le, lt-of-lt-of-le, mod-lt, div-add-mod', mul-zero, suc-mul}
+use native.Mathlib.Nat.{not-suc-le-zero, le-of-suc-le-suc, eq-or-lt-of-le, lt-of-lt-of-le, mod-lt, div-add-mod', suc-mul}
 use native.Mathlib.Decide.{ℕ-discrete}
 use native.Mathlib.Numerals.{add-one}
 use native.Mathlib.Omega.{arith}
-use borrow.Author.Count.{below-more}
 use lib.ListN.{length, getD, set, replicate, length-set}
 use lib.Seq.{getD-set-same, getD-set-other}
 use lib.Arith.{digits-div, digits-lt}
 use Rattle.verdict.specs.Checks.{Decides}
 use Rattle.machine.specs.Limits.{mostStates}
 use Rattle.machine.specs.Moves.{tableMoves, Reached, start, step}
-use Rattle.tables.specs.Tables.{Fit}
+use Rattle.tables.specs.inner.Fits.{Fit}
 use Rattle.verdict.proofs.Tests.{true≢false}
 
 -- how many flags are down

@@ -1,3 +1,4 @@
 pub mod Closure
 pub mod Transients
+pub mod Gate
 pub mod Once

@@ -1,22 +1,16 @@
 -- A couple of a table is transient exactly if the element at its move's couple is not its move: the couple is that of quotient and
--- remainder. A couple at which a check fails is a couple.
+-- remainder.
 use mathlib.Core.Path.{_≡_, sym, ap, ap₂, _∙_}
 use mathlib.Core.List.{List}
 use Prim.Native.Nat.{ℕ, _+_, _*_, _/_, _%_, _≤_, _<_}
-use native.Mathlib.Omega.{arith}
 use native.Mathlib.Nat.{div-add-mod'}
 use lib.ListN.{getD}
 use lib.Arith.{digits-mod}
-use lib.Dec.{leb}
 use mathlib.Core.Logic.{⊎-elim}
-use Rattle.verdict.specs.Checks.{Decides, None}
-use Rattle.verdict.proofs.Tests.{decides-leb}
+use Rattle.verdict.specs.Checks.{None}
 use Rattle.machine.specs.Moves.{tableMoves, Stateless, Transient}
-use Rattle.machine.proofs.Couples.{couple-of, couple-below, some-setting}
+use Rattle.machine.proofs.Couples.{couple-of, some-setting}
 use Rattle.machine.proofs.Order.{below-or}
-use Rattle.tables.specs.Tables.{Wrong}
-use Rattle.tables.specs.declared.CoupleCheck.{CoupleCheck}
-use Rattle.tables.specs.declared.CoupleCheck.the-variants.{Stateless as StatelessCheck, Transient as TransientCheck}
 
 module _ (T : List ℕ) {m states p : ℕ} where
   pub transient-at : 0 < m → p < states * m → (getD T (getD T p 0 * m + p % m) 0 ≡ getD T p 0 → ⊥) → Transient (tableMoves T m) states m p
@@ -30,19 +24,13 @@ module _ (T : List ℕ) {m states p : ℕ} where
       let r : p % m ≡ x .v = ap (_% m) (k .number) ∙ digits-mod (x .s) (k .setting) in
       x .unrest (sym (ap₂ (λ (t v : ℕ). getD T (t * m + v) 0) q r) ∙ h ∙ q)
 
--- refusal 4 at a couple, by its element x
-pub stateless : (T : List ℕ) (states m p x : ℕ) → p < states * m → x ≡ getD T p 0 → Decides (Stateless T states m p) (leb states x)
-stateless T states m p x h e =
-    let k = couple-of p (some-setting states m p h) h in
-    decides-leb states x (λ l. record { s = p / m; v = p % m; couple = k; beyond = omega arith }) (λ w. let b = w .beyond in omega arith)
-
-pub wrong-below : (T : List ℕ) (states m : ℕ) (check : CoupleCheck) (p : ℕ) → Wrong T states m check p → p < states * m
-wrong-below T states m StatelessCheck p x = couple-below (x .couple)
-wrong-below T states m TransientCheck p x = couple-below (x .couple)
+-- refusal 4 at a couple
+pub stateless-at : (T : List ℕ) {states m p : ℕ} → p < states * m → states ≤ getD T p 0 → Stateless T states m p
+stateless-at T {states} {m} {p} h b = record { s = p / m; v = p % m; couple = couple-of p (some-setting states m p h) h; beyond = b }
 
 -- a table that fails check 4 nowhere holds a state at each couple
 pub all-states : (T : List ℕ) (states m : ℕ) → None (Stateless T states m) → (p : ℕ) → p < states * m → getD T p 0 < states
 all-states T states m n p h = ⊎-elim
     (λ l. l)
-    (λ l. absurd (n .nowhere p (record { s = p / m; v = p % m; couple = couple-of p (some-setting states m p h) h; beyond = l })))
+    (λ l. absurd (n .nowhere p (stateless-at T h l)))
     (below-or (getD T p 0) states)

@@ -1,27 +1,29 @@
-// The checks of a lent table (document 01, "Moves and soundness"): refusals 2, 4, 10, 12 and 13.
+// The checks of a lent table (document 01, "Refusals by number"): one gate for every job that is handed one.
 ghost use mathlib.Core.Path.{_≡_};
-ghost use mathlib.Core.Bool.{false};
-ghost use Prim.Native.Nat.{ℕ, _+_, _*_, _<_, _≤_, _^_};
-ghost use lib.ListN.{length, getD};
-ghost use Rattle.verdict.specs.Checks.{Decides, Finds, Within};
-ghost use Rattle.machine.specs.Limits.{mostInputs, mostStates, mostSettings};
-ghost use Rattle.machine.specs.Moves.{tableMoves, Reached, Unreached, Start};
-ghost use Rattle.tables.specs.Tables.{Sized, Small, Fit, Wrong};
+ghost use Prim.Native.Nat.{ℕ, _*_, _<_, _≤_, _^_};
+ghost use lib.ListN.{length};
+ghost use Rattle.verdict.specs.Checks.{Decides, Passed, Judged};
+ghost use Rattle.machine.specs.Limits.{mostInputs, mostSettings};
+ghost use Rattle.machine.specs.Runs.{machineOf, Starts};
+ghost use Rattle.tables.specs.Tables.{Sized, Tabled, roomChecks, sizeChecks, tableChecks, stateChecks, soundChecks};
+ghost use Rattle.tables.specs.inner.Fits.{Fit};
+use crate::couples::check_moves;
+use crate::states::first_same;
+use crate::states::first_unreached;
+use crate::states::has_start;
+use machine::Frame;
 use machine::INPUTS;
-use machine::SETTINGS;
 use machine::STATES;
+use verdict::Answer;
 use verdict::Found;
 
-// The checks of single couples: refusals 4 and 10.
-pub enum CoupleCheck {
-    Stateless,
-    Transient,
-}
+mod couples;
+mod states;
 
-pub fn wide(b: u8) -> usize
-    ensures { λ r. ⌜ (r ≡ b) × (r < 256) ⌝ }
-{
-    b as usize
+// The elements that a buffer needs, and those that it has.
+pub struct Room {
+    pub needed: usize,
+    pub has: usize,
 }
 
 // How many settings there are, at most as many inputs as a machine may have; 0 for more.
@@ -36,162 +38,150 @@ pub fn settings(inputs: usize) -> usize
 }
 
 // Whether the sizes are in their ranges: otherwise refusal 2.
-pub fn sized(inputs: usize, states: usize, initial: usize) -> bool
-    ensures { λ r. ⌜ Decides (Sized inputs states initial) r ⌝ }
+pub fn sized(frame: Frame) -> bool
+    ensures { λ r. ⌜ Decides (Sized (frame .inputs) (frame .states) (frame .initial)) r ⌝ }
 {
-    if inputs < 1 {
+    if frame.inputs < 1 {
         return false;
     }
-    if INPUTS < inputs {
+    if INPUTS < frame.inputs {
         return false;
     }
-    if STATES < states {
+    if STATES < frame.states {
         return false;
     }
-    initial < states
+    frame.initial < frame.states
 }
 
-// The table's element p, or 0 beyond its end.
-fn element(table: &[u8], p: usize) -> usize
-    ensures { λ r. ⌜ (r ≡ getD (now (table .entry)) p 0) × (r < 256) ⌝ }
+// Whether the table, too, has an element for each couple: otherwise refusal 3.
+pub fn tabled(frame: Frame, table: &[u8]) -> bool
+    ensures { λ r. ⌜ Decides (Tabled (machineOf frame (now (table .entry)))) r ⌝ }
 {
-    if p < table.len() {
-        return wide(table[p]);
-    }
-    0
-}
-
-// Refusal 10 at a couple: it moves to a couple that is not at rest.
-fn passes(table: &[u8], states: usize, m: usize, p: usize) -> bool
-    requires { ⌜ (m ≤ mostSettings) × (p < states * m) ⌝ }
-    ensures { λ r. ⌜ Decides (Wrong (now (table .entry)) states m CoupleCheck.Transient p) r ⌝ }
-{
-    let t = element(table, p);
-    element(table, t * m + p % m) != t
-}
-
-fn wrong(table: &[u8], states: usize, m: usize, check: CoupleCheck, p: usize) -> bool
-    requires { ⌜ (m ≤ mostSettings) × (p < states * m) ⌝ }
-    ensures { λ r. ⌜ Decides (Wrong (now (table .entry)) states m check p) r ⌝ }
-{
-    match check {
-        CoupleCheck::Stateless => states <= element(table, p),
-        CoupleCheck::Transient => passes(table, states, m, p),
-    }
-}
-
-fn small(states: usize, m: usize) -> bool
-    ensures { λ r. ⌜ Decides (Small states m) r ⌝ }
-{
-    if STATES < states {
+    if !sized(frame) {
         return false;
     }
-    m <= SETTINGS
+    frame.states * settings(frame.inputs) <= table.len()
 }
 
-// The first couple at which a check fails, of as many states and settings as a machine may have.
-pub fn first_wrong(table: &[u8], states: usize, m: usize, check: CoupleCheck) -> Found
-    ensures { λ r. ⌜ Finds (Within (Small states m) (Wrong (now (table .entry)) states m check)) r ⌝ }
+// Refusal 3 of three buffers, at the first that is short.
+pub fn check_rooms(first: Room, second: Room, third: Room) -> Answer
+    ensures { λ r. ⌜ Judged (roomChecks first second third) Passed r ⌝ }
 {
-    if !small(states, m) {
-        return Found::Nothing;
+    if first.has < first.needed {
+        return Answer {
+            number: 3,
+            place: first.needed,
+        };
     }
-    let total = states * m;
-    for p in 0..total {
-        if wrong(table, states, m, check, p) {
-            return Found::At(p);
-        }
+    if second.has < second.needed {
+        return Answer {
+            number: 3,
+            place: second.needed,
+        };
     }
-    Found::Nothing
+    if third.has < third.needed {
+        return Answer {
+            number: 3,
+            place: third.needed,
+        };
+    }
+    Answer {
+        number: 0,
+        place: 0,
+    }
 }
 
-// Whether the table holds a state for each couple, and its sizes are in their ranges.
-fn fits(table: &[u8], states: usize, m: usize, initial: usize) -> bool
-    ensures { λ r. ⌜ Decides (Fit (now (table .entry)) states m initial) r ⌝ }
+// Refusals 2 and 3 of a table.
+fn check_sizes(frame: Frame, table: &[u8]) -> Answer
+    ensures { λ r. ⌜ Judged (sizeChecks (machineOf frame (now (table .entry)))) Passed r ⌝ }
 {
-    if !small(states, m) {
+    if !sized(frame) {
+        return Answer {
+            number: 2,
+            place: 0,
+        };
+    }
+    let couples = frame.states * settings(frame.inputs);
+    if table.len() < couples {
+        return Answer {
+            number: 3,
+            place: couples,
+        };
+    }
+    Answer {
+        number: 0,
+        place: 0,
+    }
+}
+
+// Refusals 2, 3, 4 and 10 of a table.
+pub fn check_table(frame: Frame, table: &[u8]) -> Answer
+    ensures { λ r. ⌜ Judged (tableChecks (machineOf frame (now (table .entry)))) Passed r ⌝ }
+{
+    let sizes = check_sizes(frame, table);
+    if sizes.number != 0 {
+        return sizes;
+    }
+    check_moves(table, frame.states, settings(frame.inputs))
+}
+
+// Refusals 2, 3, 4 and 10 to 13 of a table and the output words of its states.
+pub fn check_sound(frame: Frame, table: &[u8], words: &[u16]) -> Answer
+    ensures { λ r. ⌜ Judged (soundChecks (machineOf frame (now (table .entry))) (now (words .entry))) Passed r ⌝ }
+{
+    let sizes = check_sizes(frame, table);
+    if sizes.number != 0 {
+        return sizes;
+    }
+    if words.len() < frame.states {
+        return Answer {
+            number: 3,
+            place: frame.states,
+        };
+    }
+    let m = settings(frame.inputs);
+    let moves = check_moves(table, frame.states, m);
+    if moves.number != 0 {
+        return moves;
+    }
+    check_states(frame, table, words, m)
+}
+
+// Refusals 11, 12 and 13, at m settings.
+fn check_states(frame: Frame, table: &[u8], words: &[u16], m: usize) -> Answer
+    requires { ⌜ Fit (now table) (frame .states) m (frame .initial) × (frame .states ≤ length (now words)) × (m ≡ 2 ^ frame .inputs) ⌝ }
+    ensures { λ r. ⌜ Judged (stateChecks (machineOf frame (now (table .entry))) (now (words .entry))) Passed r ⌝ }
+{
+    if let Found::At(s) = first_same(words, frame.states) {
+        return Answer {
+            number: 11,
+            place: s,
+        };
+    }
+    if let Found::At(s) = first_unreached(table, frame.states, m, frame.initial) {
+        return Answer {
+            number: 12,
+            place: s,
+        };
+    }
+    if !has_start(frame, table, m) {
+        return Answer {
+            number: 13,
+            place: 0,
+        };
+    }
+    Answer {
+        number: 0,
+        place: 0,
+    }
+}
+
+// Whether a table has a start, refusals 2 and 3 passed: otherwise refusal 13.
+pub fn started(frame: Frame, table: &[u8]) -> bool
+    ensures { λ r. ⌜ Decides (Tabled (machineOf frame (now (table .entry))) × ((v : ℕ) × Starts (machineOf frame (now (table .entry))) v)) r ⌝ }
+{
+    if !tabled(frame, table) {
         return false;
     }
-    if states <= initial {
-        return false;
-    }
-    if table.len() < states * m {
-        return false;
-    }
-    let Found::Nothing = first_wrong(table, states, m, CoupleCheck::Stateless) else {
-        return false;
-    };
-    true
-}
-
-// Which states are reached: a scan of the couples that starts again whenever it adds a state.
-fn reached(table: &[u8], states: usize, m: usize, initial: usize) -> [bool; STATES]
-    requires { ⌜ Fit (now table) states m initial ⌝ }
-    ensures { λ r. ⌜ ((s : ℕ) → s < states → Decides (Reached (tableMoves (now (table .entry)) m) m initial s) (getD r s false)) ⌝ }
-{
-    let total = states * m;
-    let mut seen = [false; STATES];
-    seen[initial] = true;
-    let mut p = 0;
-    while p < total {
-        let s = p / m;
-        let t = wide(table[p]);
-        p += 1;
-        if seen[s] {
-            if !seen[t] {
-                seen[t] = true;
-                p = 0;
-            }
-        }
-    }
-    seen
-}
-
-fn first_unreached(table: &[u8], states: usize, m: usize, initial: usize) -> Found
-    requires { ⌜ Fit (now table) states m initial ⌝ }
-    ensures { λ r. ⌜ Finds (Unreached (tableMoves (now (table .entry)) m) states m initial) r ⌝ }
-{
-    let seen = reached(table, states, m, initial);
-    for s in 0..states {
-        if !seen[s] {
-            return Found::At(s);
-        }
-    }
-    Found::Nothing
-}
-
-// Refusal 12: the first state of a table that fits that is never reached.
-pub fn unreached(table: &[u8], states: usize, m: usize, initial: usize) -> Found
-    ensures { λ r. ⌜ Finds (Within (Fit (now (table .entry)) states m initial) (Unreached (tableMoves (now (table .entry)) m) states m initial)) r ⌝ }
-{
-    if !fits(table, states, m, initial) {
-        return Found::Nothing;
-    }
-    first_unreached(table, states, m, initial)
-}
-
-fn has_start(table: &[u8], m: usize, initial: usize) -> bool
-    requires { ⌜ (initial < mostStates) × (m ≤ mostSettings) ⌝ }
-    ensures { λ r. ⌜ Decides (Start (tableMoves (now (table .entry)) m) m initial) r ⌝ }
-{
-    let row = initial * m;
-    for v in 0..m {
-        if element(table, row + v) == initial {
-            return true;
-        }
-    }
-    false
-}
-
-// Whether a table has a start, its sizes being in their ranges: otherwise refusal 13.
-pub fn started(table: &[u8], states: usize, m: usize, initial: usize) -> bool
-    ensures { λ r. ⌜ Decides (Small states m × (initial < states) × Start (tableMoves (now (table .entry)) m) m initial) r ⌝ }
-{
-    if !small(states, m) {
-        return false;
-    }
-    if states <= initial {
-        return false;
-    }
-    has_start(table, m, initial)
+    has_start(frame, table, settings(frame.inputs))
 }

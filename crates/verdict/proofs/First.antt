@@ -4,7 +4,7 @@ use mathlib.Core.Path.{_≡_, sym, _∙_}
 use mathlib.Core.List.{List, [], _∷_}
 use mathlib.Core.Logic.{inl, inr}
 use Prim.Native.Nat.{ℕ}
-use Rattle.verdict.specs.Checks.{Check, Then, refused, next, Verdict, Passed, Judged, Fails, FirstFails}
+use Rattle.verdict.specs.Checks.{Check, refused, next, Verdict, Passed, Judged, Fails, FirstFails}
 use Rattle.verdict.specs.declared.Answer.{Answer}
 use Rattle.verdict.proofs.Order.{Numbered, Passes, same-answer, judged-passes}
 use Rattle.verdict.proofs.Tests.{least-unique}

@@ -2,12 +2,13 @@
 -- each by induction on the list.
 use mathlib.Core.Path.{_≡_, refl, sym, ap₂, _∙_}
 use mathlib.Core.List.{List, [], _∷_, _++_}
+use mathlib.Core.Bool.{Bool, true, false, cond}
 use Prim.Native.Nat.{ℕ, _≤_, _<_}
+use lib.Dec.{leb}
 use native.Mathlib.Omega.{arith}
-use native.Mathlib.Nat.{not-suc-le-zero}
 use Rattle.verdict.specs.Checks.{Least, None, Check, check, Then, refused, next, Verdict, Passed, Short, Judged}
 use Rattle.verdict.specs.declared.Answer.{Answer}
-use Rattle.verdict.proofs.Tests.{least-unique}
+use Rattle.verdict.proofs.Tests.{least-unique, decides-leb, decides-true, decides-both}
 
 pub same-answer : (a b : Answer) → a .number ≡ b .number → a .place ≡ b .place → a ≡ b
 same-answer a b n p = ap₂ (λ (m q : ℕ). record { number = m; place = q }) n p
@@ -15,18 +16,23 @@ same-answer a b n p = ap₂ (λ (m q : ℕ). record { number = m; place = q }) n
 pub passed-unique : (a b : Answer) → Passed a → Passed b → a ≡ b
 passed-unique a b p q = same-answer a b (p .number ∙ sym (q .number)) (p .place ∙ sym (q .place))
 
--- each number is between two bounds; no check fails
+-- each number is between two bounds: a test, which a list of checks passes by `refl`
+abbrev numbers : ℕ → ℕ → List Check → Bool
+numbers low high [] = true
+numbers low high (c ∷ cs) = cond (leb low (c .number)) (cond (leb (c .number) high) (numbers low high cs) false) false
+
 abbrev pub Numbered : ℕ → ℕ → List Check → Type 0
-Numbered low high [] = Unit {0}
-Numbered low high (c ∷ cs) = (low ≤ c .number) × (c .number ≤ high) × Numbered low high cs
+Numbered low high cs = numbers low high cs ≡ true
+
+within : (low high : ℕ) (c : Check) (cs : List Check) → Numbered low high (c ∷ cs) → (low ≤ c .number) × ((c .number ≤ high) × Numbered low high cs)
+within low high c cs e =
+    decides-both (decides-leb low (c .number) (λ h. h) (λ h. h)) (decides-both (decides-leb (c .number) high (λ h. h) (λ h. h)) (decides-true (numbers low high cs))) .holds e
+
+-- no check fails
 
 abbrev pub Passes : List Check → Type 0
 Passes [] = Unit {0}
 Passes (c ∷ cs) = None (c .fails) × Passes cs
-
-pub passes-front : (cs ds : List Check) → Passes (cs ++ ds) → Passes cs
-passes-front [] ds p = tt
-passes-front (c ∷ cs) ds p = (p .0, passes-front cs ds (p .1))
 
 -- one answer, where success has one once no check fails
 pub verdict-unique : (cs : List Check) (done : Answer → Type 0) (only : Passes cs → (a b : Answer) → done a → done b → a ≡ b) (a b : Answer) → Verdict cs done a → Verdict cs done b → a ≡ b
@@ -39,8 +45,8 @@ verdict-unique (c ∷ cs) done only a b (next n v) (next m w) = verdict-unique c
 module _ (done : Answer → Type 0) where
   on : (cs ds : List Check) (high : ℕ) (a b : Answer) → Numbered 1 high cs → Verdict cs Passed a → a .number ≡ 0 → Verdict ds done b → Verdict (cs ++ ds) done b
   on [] ds high a b num v e w = w
-  on (c ∷ cs) ds high a b num (refused l n) e w = absurd (omega (arith, num .0))
-  on (c ∷ cs) ds high a b num (next n v) e w = next n (on cs ds high a b (num .2) v e w)
+  on (c ∷ cs) ds high a b num (refused l n) e w = absurd (omega (arith, within 1 high c cs num .0))
+  on (c ∷ cs) ds high a b num (next n v) e w = next n (on cs ds high a b (within 1 high c cs num .1 .1) v e w)
 
   stop : (cs ds : List Check) (a : Answer) → Verdict cs Passed a → (a .number ≡ 0 → ⊥) → Verdict (cs ++ ds) done a
   stop [] ds a v e = absurd (e (v .number))
@@ -57,8 +63,8 @@ judged-stop {cs} ds {done} {a} v e = record { verdict = stop done cs ds a (v .ve
 
 passes : (cs : List Check) (done : Answer → Type 0) (high : ℕ) (a : Answer) → Numbered 1 high cs → Verdict cs done a → a .number ≡ 0 → Passes cs
 passes [] done high a num v e = tt
-passes (c ∷ cs) done high a num (refused l n) e = absurd (omega (arith, num .0))
-passes (c ∷ cs) done high a num (next n v) e = (n, passes cs done high a (num .2) v e)
+passes (c ∷ cs) done high a num (refused l n) e = absurd (omega (arith, within 1 high c cs num .0))
+passes (c ∷ cs) done high a num (next n v) e = (n, passes cs done high a (within 1 high c cs num .1 .1) v e)
 
 -- one that did not refuse: no check fails
 pub judged-passes : {cs : List Check} {done : Answer → Type 0} {a : Answer} (high : ℕ) → Judged cs done a → Numbered 1 high cs → a .number ≡ 0 → Passes cs
@@ -66,8 +72,8 @@ judged-passes {cs} {done} {a} high v num e = passes cs done high a num (v .verdi
 
 reaches : (cs : List Check) (done : Answer → Type 0) (high : ℕ) (a : Answer) → Numbered 1 high cs → Verdict cs done a → a .number ≡ 0 → done a
 reaches [] done high a num v e = v
-reaches (c ∷ cs) done high a num (refused l n) e = absurd (omega (arith, num .0))
-reaches (c ∷ cs) done high a num (next n v) e = reaches cs done high a (num .2) v e
+reaches (c ∷ cs) done high a num (refused l n) e = absurd (omega (arith, within 1 high c cs num .0))
+reaches (c ∷ cs) done high a num (next n v) e = reaches cs done high a (within 1 high c cs num .1 .1) v e
 
 -- and it ended in success
 pub judged-done : {cs : List Check} {done : Answer → Type 0} {a : Answer} (high : ℕ) → Judged cs done a → Numbered 1 high cs → a .number ≡ 0 → done a
@@ -75,12 +81,21 @@ judged-done {cs} {done} {a} high v num e = reaches cs done high a num (v .verdic
 
 number : (cs : List Check) (low high : ℕ) (a : Answer) → Numbered low high cs → Verdict cs Passed a → (a .number ≡ 0 → ⊥) → (low ≤ a .number) × (a .number ≤ high)
 number [] low high a num v e = absurd (e (v .number))
-number (c ∷ cs) low high a num (refused l n) e = (omega (arith, num .0), omega (arith, num .1))
-number (c ∷ cs) low high a num (next n v) e = number cs low high a (num .2) v e
+number (c ∷ cs) low high a num (refused l n) e = let (i, (j, _)) = within low high c cs num in (omega arith, omega arith)
+number (c ∷ cs) low high a num (next n v) e = number cs low high a (within low high c cs num .1 .1) v e
 
 -- the number of a refusal
 pub judged-number : {cs : List Check} {a : Answer} (low high : ℕ) → Judged cs Passed a → Numbered low high cs → (a .number ≡ 0 → ⊥) → (low ≤ a .number) × (a .number ≤ high)
 judged-number {cs} {a} low high v num e = number cs low high a num (v .verdict) e
+
+-- a front that passed, taken off a list of checks
+rest : (cs ds : List Check) (done : Answer → Type 0) (a : Answer) → Passes cs → Verdict (cs ++ ds) done a → Verdict ds done a
+rest [] ds done a p v = v
+rest (c ∷ cs) ds done a p (refused l n) = absurd (p .0 .nowhere (a .place) (l .here))
+rest (c ∷ cs) ds done a p (next n v) = rest cs ds done a (p .1) v
+
+pub judged-rest : (cs : List Check) {ds : List Check} {done : Answer → Type 0} {a : Answer} → Passes cs → Judged (cs ++ ds) done a → Judged ds done a
+judged-rest cs {ds} {done} {a} p v = record { verdict = rest cs ds done a p (v .verdict) }
 
 -- a check passed, a check that refuses
 pub pass : {F : ℕ → Type 0} {n : ℕ} {cs : List Check} {done : Answer → Type 0} {a : Answer} → None F → Judged cs done a → Judged (check n F ∷ cs) done a
@@ -111,3 +126,20 @@ long h = record { nowhere = λ p f. let e = f .1 in omega arith }
 
 pub roomy : {needed has : ℕ} → None (Short needed has) → needed ≤ has
 roomy {needed} {has} n = let f : has < needed → ⊥ = λ h. n .nowhere needed (refl, h) in omega arith
+
+module _ {F : ℕ → Type 0} {n : ℕ} {cs : List Check} {done : Answer → Type 0} {a : Answer} where
+  -- the first check refused, or the rest decided
+  pub judged-or : {P : Type 0} → Judged (check n F ∷ cs) done a → (Least F (a .place) → a .number ≡ n → P) → (None F → Judged cs done a → P) → P
+  judged-or {P} v f g = by (v .verdict)
+    where
+      by : Then F n (Verdict cs done a) a → P
+      by (refused l e) = f l e
+      by (next m w) = g m (record { verdict = w })
+
+  -- a check that fails at the same places, in front of a list that says the same
+  pub judged-row : {G : ℕ → Type 0} {ds : List Check} → ((p : ℕ) → F p → G p) → ((p : ℕ) → G p → F p) → (None G → Judged cs done a → Judged ds done a)
+      → Judged (check n F ∷ cs) done a → Judged (check n G ∷ ds) done a
+  judged-row {G} to from then v =
+      judged-or v
+      (λ l e. record { verdict = refused (record { here = to _ (l .here); first = λ p h g. l .first p h (from p g) }) e })
+      (λ m w. let none : None G = record { nowhere = λ p g. m .nowhere p (from p g) } in pass none (then none w))

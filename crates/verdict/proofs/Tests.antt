@@ -1,12 +1,13 @@
 -- What tests and searches tell: a test decides a fact, a search that has seen nothing below i goes on, finds at i or ends, and each
 -- has one answer.
 use mathlib.Core.Path.{_≡_, refl, sym, ap, subst, _∙_}
-use mathlib.Core.Bool.{Bool, true, false, not}
+use mathlib.Core.Bool.{Bool, true, false, not, cond}
+use mathlib.Core.Logic.{_⊎_, ⊎-elim, inl, inr}
 use Prim.Native.Nat.{ℕ, _+_, _≤_, _<_}
 use native.Mathlib.Omega.{arith}
 use native.Mathlib.Nat.{not-le-of-lt, not-suc-le-zero}
 use lib.Dec.{eqb, leb, ltb}
-use borrow.Author.Tests.{not-true, not-false, eqb-true, eqb-false, leb-true, leb-false, ltb-true, ltb-false}
+use borrow.Author.Tests.{eqb-true, eqb-false, leb-true, leb-false, ltb-true, ltb-false}
 use borrow.Author.Count.{below-more}
 use Rattle.verdict.specs.Checks.{Decides, Finds, at, nothing, Least, None, Unless, Within}
 use Rattle.verdict.specs.declared.Found.{Found}
@@ -24,10 +25,6 @@ it-fails n = record { holds = λ e. absurd (true≢false (sym e)); fails = λ e 
 pub decides-eqb : {P : Type 0} (a b : ℕ) → (a ≡ b → P) → (P → a ≡ b) → Decides P (eqb a b)
 decides-eqb a b f g = record { holds = λ e. f (eqb-true a b e); fails = λ e p. eqb-false a b e (g p) }
 
-pub decides-neqb : {P : Type 0} (a b : ℕ) → ((a ≡ b → ⊥) → P) → (a ≡ b → P → ⊥) → Decides P (not (eqb a b))
-decides-neqb a b f g =
-    record { holds = λ e. f (eqb-false a b (not-true _ e)); fails = λ e p. g (eqb-true a b (not-false _ e)) p }
-
 pub decides-leb : {P : Type 0} (a b : ℕ) → (a ≤ b → P) → (P → a ≤ b) → Decides P (leb a b)
 decides-leb a b f g = record { holds = λ e. f (leb-true a b e); fails = λ e p. not-le-of-lt (leb-false a b e) (g p) }
 
@@ -36,6 +33,44 @@ decides-lt a b f g = record { holds = λ e. f (ltb-true a b e); fails = λ e p. 
 
 pub decides-map : {P Q : Type 0} {t : Bool} → (P → Q) → (Q → P) → Decides P t → Decides Q t
 decides-map f g d = record { holds = λ e. f (d .holds e); fails = λ e q. d .fails e (g q) }
+
+pub decides-equal : (a b : ℕ) → Decides (a ≡ b) (eqb a b)
+decides-equal a b = decides-eqb a b (λ e. e) (λ e. e)
+
+pub decides-below : (a b : ℕ) → Decides (a < b) (ltb a b)
+decides-below a b = decides-lt a b (λ e. e) (λ e. e)
+
+pub decides-true : (b : Bool) → Decides (b ≡ true) b
+decides-true b = record { holds = λ e. e; fails = λ e h. true≢false (sym h ∙ e) }
+
+pub decides-not : {P : Type 0} {b : Bool} → Decides P b → Decides (P → ⊥) (not b)
+decides-not {b = true} d = it-fails (λ n. n (d .holds refl))
+decides-not {b = false} d = it-holds (d .fails refl)
+
+pub decides-both : {P Q : Type 0} {a b : Bool} → Decides P a → Decides Q b → Decides (P × Q) (cond a b false)
+decides-both {a = true} d f = decides-map (λ q. (d .holds refl, q)) (λ x. x .1) f
+decides-both {a = false} d f = it-fails (λ x. d .fails refl (x .0))
+
+pub decides-either : {P Q : Type 0} {a b : Bool} → Decides P a → Decides Q b → Decides (P ⊎ Q) (cond a true b)
+decides-either {a = true} d f = it-holds (inl (d .holds refl))
+decides-either {a = false} d f = decides-map inr (⊎-elim (λ p. absurd (d .fails refl p)) (λ q. q)) f
+
+pub decides-if : {P Q : Type 0} {a b : Bool} → Decides P a → Decides Q b → Decides (P → Q) (cond a b true)
+decides-if {a = true} d f = decides-map (λ q _. q) (λ g. g (d .holds refl)) f
+decides-if {a = false} d f = it-holds (λ p. absurd (d .fails refl p))
+
+-- what is tested holds or does not, and a test of what holds says so
+pub decides-or : {P : Type 0} {b : Bool} → Decides P b → P ⊎ (P → ⊥)
+decides-or {b = true} d = inl (d .holds refl)
+decides-or {b = false} d = inr (d .fails refl)
+
+pub decides-cases : {P : Type 0} {b : Bool} → Decides P b → ((b ≡ true) × P) ⊎ ((b ≡ false) × (P → ⊥))
+decides-cases {b = true} d = inl (refl, d .holds refl)
+decides-cases {b = false} d = inr (refl, d .fails refl)
+
+pub decides-is : {P : Type 0} {b : Bool} → Decides P b → P → b ≡ true
+decides-is {b = true} d p = refl
+decides-is {b = false} d p = absurd (d .fails refl p)
 
 -- what a search that answered `x` found
 pub at-least : {F : ℕ → Type 0} {x : Found} {p : ℕ} → Finds F x → x ≡ At p → Least F p
@@ -62,12 +97,6 @@ finds-map to from (nothing n) = nothing (record { nowhere = λ p g. n .nowhere p
 module _ {G : Type 0} {F : ℕ → Type 0} where
   pub within : {x : Found} → G → Finds F x → Finds (Within G F) x
   within g = finds-map (λ p f. record { fit = g; fault = f }) (λ p w. w .fault)
-
-  pub without : {x : Found} → G → Finds (Within G F) x → Finds F x
-  without g = finds-map (λ p w. w .fault) (λ p f. record { fit = g; fault = f })
-
-  pub unfit : (G → ⊥) → Finds (Within G F) Nothing
-  unfit n = nothing (record { nowhere = λ p w. n (w .fit) })
 
 -- F at none of the places below i: the invariant of a search
 pub record Unseen (F : ℕ → Type 0) (i : ℕ) : Type 0 where
@@ -102,13 +131,7 @@ least-unique {fails} {p} {q} a b =
     let g : q < p → ⊥ = λ h. a .first q h (b .here) in
     omega arith
 
--- a search, and a test, have one answer
-pub finds-unique : {F : ℕ → Type 0} {x y : Found} → Finds F x → Finds F y → x ≡ y
-finds-unique (at a) (at b) = ap At (least-unique a b)
-finds-unique (at a) (nothing n) = absurd (n .nowhere _ (a .here))
-finds-unique (nothing n) (at a) = absurd (n .nowhere _ (a .here))
-finds-unique (nothing n) (nothing m) = refl
-
+-- a test has one answer
 pub decides-unique : (P : Type 0) (a b : Bool) → Decides P a → Decides P b → a ≡ b
 decides-unique P true true d f = refl
 decides-unique P false false d f = refl

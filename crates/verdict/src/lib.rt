@@ -1,8 +1,9 @@
 // What every job answers, and what a search for a place answers.
 
 // A refusal's number and place; number 0 is success.
+#[repr(C)]
 pub struct Answer {
-    pub number: u8,
+    pub number: usize,
     pub place: usize,
 }
 

@@ -2,7 +2,7 @@
 
 use mundrefol::generate::{largest_file, longest_table, Table};
 use mundrefol::plain::{self, lines, Jobs, COUPLES, EVOLUTIONS, FILE, STATES, UNMARKED};
-use mundrefol::{examples, Contents, Evolution};
+use mundrefol::{examples, Contents, Evolution, Frame};
 use std::fs::{self, File};
 use std::hint::black_box;
 use std::io::{self, Read, Write};
@@ -87,9 +87,9 @@ impl Buffers {
 
 /// Prints what an input is, and the head of its rows.
 fn head(name: &str, size: &str, table: &Table) {
-    let Table { inputs, states, initial, ref moves } = *table;
-    let mut ranks = vec![0; table.couples()];
-    let plan = plain::plan(inputs, states, initial, moves, &mut ranks, &mut []).place;
+    let Frame { inputs, states, .. } = table.frame;
+    let mut ranks = vec![0; table.moves.len()];
+    let plan = plain::plan(table.frame, &table.moves, &mut ranks, &mut []).place;
     let highest = ranks.iter().filter(|&&rank| rank != UNMARKED).max().expect("a start is marked");
     println!("\n{name}: {inputs} inputs, {states} states, {size}highest rank {highest}, plan of {plan} bytes");
     println!("{:<10}{:>16}{:>16}{:>8}", "job", "library", "Rust", "ratio");
@@ -99,10 +99,9 @@ fn bench_file(name: &str, file: &[u8]) {
     let mut ours = Buffers::new();
     let mut theirs = Buffers::new();
     let contents = plain::read(file, &mut theirs.table, &mut theirs.words, &mut theirs.records);
-    assert_eq!(contents.number, 0);
-    let Contents { inputs, states, initial, evolutions, .. } = contents;
-    let moves = theirs.table[..states << inputs].to_vec();
-    let table = Table { inputs, states, initial, moves };
+    let Contents { answer, evolutions, frame, .. } = contents;
+    assert_eq!(answer.number, 0);
+    let table = Table { frame, moves: theirs.table[..frame.couples()].to_vec() };
     head(name, &format!("{evolutions} evolutions, {} bytes, ", file.len()), &table);
     let mut library = || {
         black_box(mundrefol::read(
@@ -157,13 +156,13 @@ fn bench_program(file: &[u8]) {
 }
 
 fn bench_table(table: &Table) {
-    let Table { inputs, states, initial, ref moves } = *table;
-    let (mut ours, mut theirs) = (vec![0; table.couples()], vec![0; table.couples()]);
+    let Table { frame, ref moves } = *table;
+    let (mut ours, mut theirs) = (vec![0; moves.len()], vec![0; moves.len()]);
     let mut library = || {
-        black_box(mundrefol::mark(inputs, states, initial, black_box(moves), &mut ours));
+        black_box(mundrefol::mark(frame, black_box(moves), &mut ours));
     };
     let mut independent = || {
-        black_box(plain::mark(inputs, states, initial, black_box(moves), &mut theirs));
+        black_box(plain::mark(frame, black_box(moves), &mut theirs));
     };
     row("marking", &mut library, &mut independent);
     let ranked = (0..theirs.len()).filter(|&couple| theirs[couple] != UNMARKED);
@@ -174,38 +173,31 @@ fn bench_table(table: &Table) {
 }
 
 fn bench_plan(table: &Table) {
-    let Table { inputs, states, initial, ref moves } = *table;
-    let mut ranks = vec![0; table.couples()];
-    let needed = plain::plan(inputs, states, initial, moves, &mut ranks, &mut []).place;
+    let Table { frame, ref moves } = *table;
+    let mut ranks = vec![0; moves.len()];
+    let needed = plain::plan(frame, moves, &mut ranks, &mut []).place;
     let (mut ours, mut theirs) = (vec![0; needed], vec![0; needed]);
     let (mut our_ranks, mut their_ranks) = (ranks.clone(), ranks);
     let mut library = || {
-        let moves = black_box(moves);
-        black_box(mundrefol::plan(inputs, states, initial, moves, &mut our_ranks, &mut ours));
+        black_box(mundrefol::plan(frame, black_box(moves), &mut our_ranks, &mut ours));
     };
     let mut independent = || {
-        let moves = black_box(moves);
-        black_box(plain::plan(inputs, states, initial, moves, &mut their_ranks, &mut theirs));
+        black_box(plain::plan(frame, black_box(moves), &mut their_ranks, &mut theirs));
     };
     row("plan", &mut library, &mut independent);
 }
 
 /// The run to the couple of the highest rank.
 fn bench_run(table: &Table, couple: usize) -> Vec<u8> {
-    let Table { inputs, states, initial, ref moves } = *table;
-    let (mut our_ranks, mut ours) = (vec![0; table.couples()], vec![0; COUPLES]);
+    let Table { frame, ref moves } = *table;
+    let (mut our_ranks, mut ours) = (vec![0; moves.len()], vec![0; COUPLES]);
     let (mut their_ranks, mut theirs) = (our_ranks.clone(), ours.clone());
-    let needed =
-        plain::run_to(inputs, states, initial, moves, &mut their_ranks, couple, &mut theirs).place;
+    let needed = plain::run_to(frame, moves, &mut their_ranks, couple, &mut theirs).place;
     let mut library = || {
-        let moves = black_box(moves);
-        let ranks = &mut our_ranks;
-        black_box(mundrefol::run_to(inputs, states, initial, moves, ranks, couple, &mut ours));
+        black_box(mundrefol::run_to(frame, black_box(moves), &mut our_ranks, couple, &mut ours));
     };
     let mut independent = || {
-        let moves = black_box(moves);
-        let ranks = &mut their_ranks;
-        black_box(plain::run_to(inputs, states, initial, moves, ranks, couple, &mut theirs));
+        black_box(plain::run_to(frame, black_box(moves), &mut their_ranks, couple, &mut theirs));
     };
     row("run", &mut library, &mut independent);
     theirs.truncate(needed);
@@ -213,17 +205,17 @@ fn bench_run(table: &Table, couple: usize) -> Vec<u8> {
 }
 
 fn bench_readings(table: &Table, run: &[u8]) {
-    let Table { inputs, states, initial, ref moves } = *table;
-    let words: Vec<u16> = (0..states as u16).collect();
+    let Table { frame, ref moves } = *table;
+    let words: Vec<u16> = (0..frame.states as u16).collect();
     let mut ours = vec![0; 2 * run.len() - 1];
     let mut theirs = ours.clone();
     let mut library = || {
         let (moves, run) = (black_box(moves), black_box(run));
-        black_box(mundrefol::expected(inputs, states, initial, moves, &words, run, &mut ours));
+        black_box(mundrefol::expected(frame, moves, &words, run, &mut ours));
     };
     let mut independent = || {
         let (moves, run) = (black_box(moves), black_box(run));
-        black_box(plain::expected(inputs, states, initial, moves, &words, run, &mut theirs));
+        black_box(plain::expected(frame, moves, &words, run, &mut theirs));
     };
     row("readings", &mut library, &mut independent);
 }

@@ -1,10 +1,12 @@
 //! Seeded inputs for the tests and the benchmarks: tables, conditions and files, sound and damaged.
 
+mod damage;
 mod files;
 mod tables;
 mod texts;
 
-pub use files::{damaged, file_of_regions, largest_file, random_bytes, random_file, settled_file};
+pub use damage::damaged;
+pub use files::{file_of_regions, largest_file, random_bytes, random_file, settled_file};
 pub use tables::{any_table, longest_table, sizes, Regions, Table};
 pub use texts::{dressed, nested, random_condition, sum_of_products};
 

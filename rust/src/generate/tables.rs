@@ -3,21 +3,13 @@
 use super::texts::Product;
 use super::Random;
 use crate::plain::{INPUTS, STATES};
+use crate::Frame;
 
-/// A table with its sizes.
+/// A table with its frame.
 #[derive(Clone, Debug)]
 pub struct Table {
-    pub inputs: usize,
-    pub states: usize,
-    pub initial: usize,
+    pub frame: Frame,
     pub moves: Vec<u8>,
-}
-
-impl Table {
-    /// Number of couples.
-    pub fn couples(&self) -> usize {
-        self.states << self.inputs
-    }
 }
 
 /// Inputs and states, mostly few of them.
@@ -178,7 +170,7 @@ pub fn any_table(random: &mut Random) -> Table {
         2 => *moves.last_mut().expect("a table has couples") = states as u8,
         _ => {}
     }
-    Table { inputs, states, initial: random.below(states), moves }
+    Table { frame: Frame { inputs, states, initial: random.below(states) }, moves }
 }
 
 /// Inputs changed one after the other along a path of settings of 8 inputs no two of which differ in
@@ -207,5 +199,5 @@ pub fn longest_table() -> Table {
             moves[state * settings + setting] = state as u8 + 1;
         }
     }
-    Table { inputs: INPUTS, states: STATES, initial: 0, moves }
+    Table { frame: Frame { inputs: INPUTS, states: STATES, initial: 0 }, moves }
 }

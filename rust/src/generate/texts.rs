@@ -4,7 +4,7 @@ use super::Random;
 use crate::plain::PARENTHESES;
 
 /// Longest text of a record.
-const TEXT: usize = 255;
+pub const TEXT: usize = 255;
 
 /// A product: the inputs it names, and those of them that are on.
 #[derive(Clone, Copy, Debug, PartialEq, Eq)]

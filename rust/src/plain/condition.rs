@@ -1,9 +1,11 @@
 //! Conditions: terms joined by `+`, factors joined by `.`, `!`, parentheses, `0`, `1` and letters.
 
-use super::PARENTHESES;
+use super::{INPUTS, PARENTHESES};
 
 /// What the condition says at a setting, or nothing if it does not read.
 pub fn holds(text: &[u8], inputs: usize, setting: usize) -> Option<bool> {
+    // A letter is one of the most inputs there are, also where more are told.
+    let inputs = inputs.min(INPUTS);
     let mut reader = Reader { text, inputs, setting, open: 0 };
     let value = reader.condition()?;
     reader.text.is_empty().then_some(value)
@@ -85,6 +87,21 @@ mod tests {
             ["a+", "()", "c", "", " a", "a ", "a\n", "A", "ab", "(a", "a)", "!", "!+a", "a..b"]
         {
             assert_eq!(holds(text.as_bytes(), 2, 0), None, "{text}");
+        }
+    }
+
+    #[test]
+    fn letters_are_a_to_h_whatever_the_inputs() {
+        for inputs in [0, 1, 7, 8, 9, 26, 200, usize::MAX] {
+            for sign in 0..=u8::MAX {
+                let number = usize::from(sign).wrapping_sub(usize::from(b'a'));
+                let reads = b"01".contains(&sign) || number < inputs.min(8);
+                assert_eq!(holds(&[sign], inputs, 0).is_some(), reads, "{sign} of {inputs}");
+                if number < inputs.min(8) {
+                    assert_eq!(holds(&[sign], inputs, 1 << number), Some(true));
+                    assert_eq!(holds(&[sign], inputs, !(1 << number)), Some(false));
+                }
+            }
         }
     }
 

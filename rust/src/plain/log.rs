@@ -6,6 +6,7 @@ use crate::{Entry, Log, Noted};
 const EQUAL: usize = 0;
 const STORED: usize = 1;
 const FULL: usize = 2;
+const REFUSED: usize = 3;
 
 /// Notes one reading in the log.
 pub fn update(
@@ -17,7 +18,7 @@ pub fn update(
     seen: u16,
 ) -> Noted {
     if !is_sound(log) || log.readings == u32::MAX {
-        return Noted { number: 18, place: 0, kind: EQUAL };
+        return Noted { number: 18, place: 0, kind: REFUSED };
     }
     log.readings += 1;
     let kind = if expected == seen { EQUAL } else { differ(log, Entry { run, change, second }) };

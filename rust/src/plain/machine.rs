@@ -1,58 +1,65 @@
 //! A table lent to a job: its moves, and the checks that every table job asks.
 
 use super::{check_lengths, refuse_at, INPUTS, STATES};
-use crate::Answer;
+use crate::{Answer, Frame};
 
-/// Inputs, states and initial state within their ranges, and the move of each couple.
+/// A frame within its ranges, and the move of each couple.
 #[derive(Clone, Copy)]
 pub struct Machine<'a> {
-    pub inputs: usize,
-    pub states: usize,
-    pub initial: usize,
+    pub frame: Frame,
     pub moves: &'a [u8],
 }
 
-/// Whether inputs, states and initial state are in their ranges.
-pub fn sizes_fit(inputs: usize, states: usize, initial: usize) -> bool {
-    (1..=INPUTS).contains(&inputs) && (1..=STATES).contains(&states) && initial < states
+impl Frame {
+    /// Whether inputs, states and initial state are in their ranges.
+    pub fn fits(&self) -> bool {
+        (1..=INPUTS).contains(&self.inputs)
+            && (1..=STATES).contains(&self.states)
+            && self.initial < self.states
+    }
+
+    /// Number of couples, of a frame within its ranges.
+    pub fn couples(&self) -> usize {
+        self.states << self.inputs
+    }
 }
 
 impl<'a> Machine<'a> {
-    /// Checks 2 and 3: the sizes and `more`, then the table and the buffers that `others` names by
+    /// Checks 2 and 3: the frame and `more`, then the table and the buffers that `others` names by
     /// length and need, in this order.
     pub fn new(
-        (inputs, states, initial): (usize, usize, usize),
+        frame: Frame,
         table: &'a [u8],
         more: bool,
         others: impl Fn(usize) -> Vec<(usize, usize)>,
     ) -> Result<Self, Answer> {
-        if !sizes_fit(inputs, states, initial) || !more {
+        if !frame.fits() || !more {
             return Err(Answer::refused(2, 0));
         }
-        let couples = states << inputs;
+        let couples = frame.couples();
         check_lengths(&[(table.len(), couples)])?;
         check_lengths(&others(couples))?;
-        Ok(Machine { inputs, states, initial, moves: &table[..couples] })
+        Ok(Machine { frame, moves: &table[..couples] })
     }
 
     /// Number of settings.
     pub fn settings(&self) -> usize {
-        1 << self.inputs
+        1 << self.frame.inputs
     }
 
     /// Number of couples.
     pub fn couples(&self) -> usize {
-        self.states << self.inputs
+        self.frame.couples()
     }
 
     /// Number of the couple of a state and a setting.
     pub fn couple(&self, state: usize, setting: usize) -> usize {
-        state << self.inputs | setting
+        state << self.frame.inputs | setting
     }
 
     /// State of a couple.
     pub fn state(&self, couple: usize) -> usize {
-        couple >> self.inputs
+        couple >> self.frame.inputs
     }
 
     /// Setting of a couple.
@@ -77,12 +84,12 @@ impl<'a> Machine<'a> {
 
     /// Whether a run may start at a setting.
     pub fn starts(&self, setting: usize) -> bool {
-        self.rests(self.couple(self.initial, setting))
+        self.rests(self.couple(self.frame.initial, setting))
     }
 
     /// Check 4: every move is a state.
     pub fn check_states(&self) -> Result<(), Answer> {
-        refuse_at(4, (0..self.couples()).find(|&couple| self.to(couple) >= self.states))
+        refuse_at(4, (0..self.couples()).find(|&couple| self.to(couple) >= self.frame.states))
     }
 
     /// Check 10: no couple moves to one that is not at rest.

@@ -2,17 +2,11 @@
 
 use super::machine::Machine;
 use super::UNMARKED;
-use crate::Answer;
+use crate::{Answer, Frame};
 
 /// Marks the couples that runs visit: their ranks, 65,535 for the others.
-pub fn mark(
-    inputs: usize,
-    states: usize,
-    initial: usize,
-    table: &[u8],
-    ranks: &mut [u16],
-) -> Answer {
-    match Marked::new(inputs, states, initial, table, ranks) {
+pub fn mark(frame: Frame, table: &[u8], ranks: &mut [u16]) -> Answer {
+    match Marked::new(frame, table, ranks) {
         Ok(_) => Answer::done(0),
         Err(answer) => answer,
     }
@@ -28,16 +22,9 @@ pub struct Marked<'a> {
 
 impl<'a> Marked<'a> {
     /// Checks 2, 3, 4, 10 and 13, and the ranks.
-    pub fn new(
-        inputs: usize,
-        states: usize,
-        initial: usize,
-        table: &'a [u8],
-        ranks: &'a mut [u16],
-    ) -> Result<Self, Answer> {
+    pub fn new(frame: Frame, table: &'a [u8], ranks: &'a mut [u16]) -> Result<Self, Answer> {
         let length = ranks.len();
-        let sizes = (inputs, states, initial);
-        let machine = Machine::new(sizes, table, true, |couples| vec![(length, couples)])?;
+        let machine = Machine::new(frame, table, true, |couples| vec![(length, couples)])?;
         let ranks = &mut ranks[..machine.couples()];
         ranks.fill(UNMARKED);
         machine.check_states()?;
@@ -54,13 +41,13 @@ impl<'a> Marked<'a> {
         let machine = self.machine;
         let mut queue = Vec::with_capacity(machine.couples());
         for setting in (0..machine.settings()).filter(|&setting| machine.starts(setting)) {
-            let couple = machine.couple(machine.initial, setting);
+            let couple = machine.couple(machine.frame.initial, setting);
             self.ranks[couple] = 0;
             queue.push(couple);
         }
         let mut next = 0;
         while let Some(&parent) = queue.get(next) {
-            for input in 0..machine.inputs {
+            for input in 0..machine.frame.inputs {
                 let visited = parent ^ 1 << input;
                 self.visit(parent, visited, &mut queue);
                 if !machine.rests(visited) {

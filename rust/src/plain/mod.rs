@@ -4,6 +4,7 @@
 //! every lent buffer, after refusals too.
 
 mod condition;
+mod evolution;
 mod log;
 mod machine;
 mod marking;
@@ -13,6 +14,7 @@ mod sheet;
 mod specification;
 
 pub use condition::holds;
+pub use evolution::evolution_holds;
 pub use log::update;
 pub use marking::mark;
 pub use plan::{plan, run_to};

@@ -1,22 +1,20 @@
 //! The run to a couple, and the plan.
 
 use super::marking::Marked;
-use crate::Answer;
+use crate::{Answer, Frame};
 
 /// Bytes before the settings of a stored run.
 const LENGTH_BYTES: usize = 2;
 
 /// Writes the run to a couple; the place is its number of settings.
 pub fn run_to(
-    inputs: usize,
-    states: usize,
-    initial: usize,
+    frame: Frame,
     table: &[u8],
     ranks: &mut [u16],
     couple: usize,
     run: &mut [u8],
 ) -> Answer {
-    let marked = match Marked::new(inputs, states, initial, table, ranks) {
+    let marked = match Marked::new(frame, table, ranks) {
         Ok(marked) => marked,
         Err(answer) => return answer,
     };
@@ -35,15 +33,8 @@ pub fn run_to(
 }
 
 /// Writes the plan; the place is its number of bytes.
-pub fn plan(
-    inputs: usize,
-    states: usize,
-    initial: usize,
-    table: &[u8],
-    ranks: &mut [u16],
-    plan: &mut [u8],
-) -> Answer {
-    let marked = match Marked::new(inputs, states, initial, table, ranks) {
+pub fn plan(frame: Frame, table: &[u8], ranks: &mut [u16], plan: &mut [u8]) -> Answer {
+    let marked = match Marked::new(frame, table, ranks) {
         Ok(marked) => marked,
         Err(answer) => return answer,
     };

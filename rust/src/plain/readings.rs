@@ -2,20 +2,18 @@
 
 use super::machine::Machine;
 use super::{refuse_at, SETTINGS_OF_A_RUN};
-use crate::Answer;
+use crate::{Answer, Frame};
 
 /// Writes the readings expected on a run; the place is their number.
 pub fn expected(
-    inputs: usize,
-    states: usize,
-    initial: usize,
+    frame: Frame,
     table: &[u8],
     words: &[u16],
     run: &[u8],
     readings: &mut [u16],
 ) -> Answer {
     let lengths = (words.len(), readings.len());
-    match checked((inputs, states, initial), table, lengths, run) {
+    match checked(frame, table, lengths, run) {
         Ok(machine) => Answer::done(write(&machine, words, run, readings)),
         Err(answer) => answer,
     }
@@ -28,14 +26,14 @@ fn needed(settings: usize) -> usize {
 
 /// Checks 2, 3, 4, 10 and 17; the lengths are those of words and readings.
 fn checked<'a>(
-    sizes: (usize, usize, usize),
+    frame: Frame,
     table: &'a [u8],
     lengths: (usize, usize),
     run: &[u8],
 ) -> Result<Machine<'a>, Answer> {
     let short_enough = run.len() <= SETTINGS_OF_A_RUN;
-    let machine = Machine::new(sizes, table, short_enough, |_| {
-        vec![(lengths.0, sizes.1), (lengths.1, needed(run.len()))]
+    let machine = Machine::new(frame, table, short_enough, |_| {
+        vec![(lengths.0, frame.states), (lengths.1, needed(run.len()))]
     })?;
     machine.check_states()?;
     machine.check_transients()?;
@@ -60,7 +58,7 @@ fn first_fault(machine: &Machine, run: &[u8]) -> Option<usize> {
 
 /// Writes the readings of a run and answers their number.
 fn write(machine: &Machine, words: &[u16], run: &[u8], readings: &mut [u16]) -> usize {
-    let mut state = machine.initial;
+    let mut state = machine.frame.initial;
     let mut pass = |setting: u8| {
         state = machine.to(machine.couple(state, usize::from(setting)));
         words[state]

@@ -1,13 +1,13 @@
 //! The text of the sheet.
 
 use super::{COUPLES, EVOLUTIONS, PLAN, STATES, UNMARKED};
-use crate::{Answer, Contents, Evolution};
+use crate::{Answer, Contents, Evolution, Frame};
 use std::io::Write;
 
 /// Reading a file.
 pub type Read = fn(&[u8], &mut [u8], &mut [u16], &mut [Evolution]) -> Contents;
 /// Writing the plan.
-pub type Plan = fn(usize, usize, usize, &[u8], &mut [u16], &mut [u8]) -> Answer;
+pub type Plan = fn(Frame, &[u8], &mut [u16], &mut [u8]) -> Answer;
 
 /// The two jobs that a sheet is made of.
 #[derive(Clone, Copy)]
@@ -27,19 +27,19 @@ pub fn lines(jobs: Jobs, file: &[u8]) -> Vec<u8> {
     let mut table = [0; COUPLES];
     let contents =
         (jobs.read)(file, &mut table, &mut [0; STATES], &mut [Evolution::default(); EVOLUTIONS]);
-    if contents.number != 0 {
-        write_refusal(&mut text, contents.number, contents.place);
+    if contents.answer.number != 0 {
+        write_refusal(&mut text, contents.answer);
         return text;
     }
-    let (inputs, states) = (contents.inputs, contents.states);
+    let frame = contents.frame;
     let mut ranks = [UNMARKED; COUPLES];
     let mut plan = vec![0; PLAN];
-    let answer = (jobs.plan)(inputs, states, contents.initial, &table, &mut ranks, &mut plan);
+    let answer = (jobs.plan)(frame, &table, &mut ranks, &mut plan);
     if answer.number != 0 {
-        write_refusal(&mut text, answer.number, answer.place);
+        write_refusal(&mut text, answer);
         return text;
     }
-    write_ranks(&mut text, inputs, states, &ranks[..states << inputs]);
+    write_ranks(&mut text, frame, &ranks[..frame.couples()]);
     write_runs(&mut text, &plan[..answer.place]);
     text
 }
@@ -53,12 +53,12 @@ fn write_line(text: &mut Vec<u8>, word: &str, numbers: &[usize]) {
     text.push(b'\n');
 }
 
-fn write_refusal(text: &mut Vec<u8>, number: usize, place: usize) {
-    write_line(text, "REFUSED", &[number, place]);
+fn write_refusal(text: &mut Vec<u8>, answer: Answer) {
+    write_line(text, "REFUSED", &[answer.number, answer.place]);
 }
 
-fn write_ranks(text: &mut Vec<u8>, inputs: usize, states: usize, ranks: &[u16]) {
-    let couples = states << inputs;
+fn write_ranks(text: &mut Vec<u8>, frame: Frame, ranks: &[u16]) {
+    let (inputs, states, couples) = (frame.inputs, frame.states, frame.couples());
     let marked = ranks.iter().filter(|&&rank| rank != UNMARKED).count();
     writeln!(text, "INPUTS {inputs} STATES {states} COUPLES {couples} MARKED {marked}")
         .expect("a vector takes every byte");

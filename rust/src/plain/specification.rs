@@ -1,9 +1,9 @@
 //! Reading a specification file: checks 1 to 13, its table, words and records.
 
 use super::condition::holds;
-use super::machine::{sizes_fit, Machine};
+use super::machine::Machine;
 use super::{check_lengths, refuse_at, EVOLUTIONS, FILE, NO_MOVE, NO_WORD, OUTPUTS, STATES};
-use crate::{Answer, Contents, Evolution};
+use crate::{Answer, Contents, Evolution, Frame};
 use std::ops::Range;
 
 const MARK: &[u8] = b"SEQ1";
@@ -25,8 +25,8 @@ pub fn read(
         Ok(layout) => layout,
         Err(answer) => return refused(answer),
     };
-    let table = &mut table[..layout.states << layout.inputs];
-    let words = &mut words[..layout.states];
+    let table = &mut table[..layout.frame.couples()];
+    let words = &mut words[..layout.frame.states];
     let records = &mut records[..layout.evolutions];
     if let Err(answer) = layout.fill(table, words, records) {
         table.fill(NO_MOVE);
@@ -34,19 +34,12 @@ pub fn read(
         records.fill(Evolution::default());
         return refused(answer);
     }
-    Contents {
-        number: 0,
-        place: 0,
-        inputs: layout.inputs,
-        outputs: layout.outputs,
-        states: layout.states,
-        initial: layout.initial,
-        evolutions: layout.evolutions,
-    }
+    let Layout { outputs, evolutions, frame, .. } = layout;
+    Contents { answer: Answer::done(0), outputs, evolutions, frame }
 }
 
 fn refused(answer: Answer) -> Contents {
-    Contents { number: answer.number, place: answer.place, ..Contents::default() }
+    Contents { answer, ..Contents::default() }
 }
 
 /// Two bytes, low byte first.
@@ -78,10 +71,8 @@ fn bodies(file: &[u8]) -> Option<[Range<usize>; BODIES]> {
 /// A file that passes checks 1 to 3: its sizes, and where its bodies begin.
 struct Layout<'a> {
     file: &'a [u8],
-    inputs: usize,
+    frame: Frame,
     outputs: usize,
-    states: usize,
-    initial: usize,
     evolutions: usize,
     state_records: usize,
     evolution_records: usize,
@@ -95,10 +86,8 @@ impl<'a> Layout<'a> {
         let size = |index: usize| usize::from(file[sizes.start + index]);
         let layout = Layout {
             file,
-            inputs: size(0),
+            frame: Frame { inputs: size(0), states: size(2), initial: size(3) },
             outputs: size(1),
-            states: size(2),
-            initial: size(3),
             evolutions: evolutions.len() / RECORD_BYTES,
             state_records: states.start,
             evolution_records: evolutions.start,
@@ -108,8 +97,8 @@ impl<'a> Layout<'a> {
             return Err(Answer::refused(2, 0));
         }
         check_lengths(&[
-            (lengths.0, layout.states << layout.inputs),
-            (lengths.1, layout.states),
+            (lengths.0, layout.frame.couples()),
+            (lengths.1, layout.frame.states),
             (lengths.2, layout.evolutions),
         ])?;
         Ok(layout)
@@ -117,24 +106,24 @@ impl<'a> Layout<'a> {
 
     /// Check 2.
     fn sizes_agree(&self, state_records: usize, texts: usize) -> bool {
-        sizes_fit(self.inputs, self.states, self.initial)
+        self.frame.fits()
             && (1..=OUTPUTS).contains(&self.outputs)
-            && state_records == self.states
+            && state_records == self.frame.states
             && self.evolutions <= EVOLUTIONS
             && (0..self.records()).map(|record| self.text_length(record)).sum::<usize>() == texts
     }
 
     /// Number of records, states first.
     fn records(&self) -> usize {
-        self.states + self.evolutions
+        self.frame.states + self.evolutions
     }
 
     /// The three bytes of a record.
     fn record(&self, record: usize) -> &'a [u8] {
-        let start = if record < self.states {
+        let start = if record < self.frame.states {
             self.state_records + RECORD_BYTES * record
         } else {
-            self.evolution_records + RECORD_BYTES * (record - self.states)
+            self.evolution_records + RECORD_BYTES * (record - self.frame.states)
         };
         &self.file[start..start + RECORD_BYTES]
     }
@@ -168,12 +157,7 @@ impl<'a> Layout<'a> {
         refuse_at(5, texts.iter().position(|text| self.holds(text, 0).is_none()))?;
         self.check_evolutions(records)?;
         self.fill_table(&texts, records, table)?;
-        let machine = Machine {
-            inputs: self.inputs,
-            states: self.states,
-            initial: self.initial,
-            moves: table,
-        };
+        let machine = Machine { frame: self.frame, moves: table };
         machine.check_transients()?;
         refuse_at(11, (0..words.len()).find(|&state| words[..state].contains(&words[state])))?;
         refuse_at(12, first_unreached(&machine))?;
@@ -186,8 +170,8 @@ impl<'a> Layout<'a> {
             *word = u16::from_le_bytes([bytes[0], bytes[1]]);
         }
         for (index, evolution) in records.iter_mut().enumerate() {
-            let bytes = self.record(self.states + index);
-            let at = texts[self.states + index].start as u16;
+            let bytes = self.record(self.frame.states + index);
+            let at = texts[self.frame.states + index].start as u16;
             *evolution = Evolution { source: bytes[0], target: bytes[1], at, length: bytes[2] };
         }
     }
@@ -195,21 +179,21 @@ impl<'a> Layout<'a> {
     /// Check 4: words within the outputs, then states within the evolutions.
     fn check_records(&self, words: &[u16], records: &[Evolution]) -> Result<(), Answer> {
         refuse_at(4, words.iter().position(|&word| u32::from(word) >> self.outputs != 0))?;
-        let foreign = |state: u8| usize::from(state) >= self.states;
+        let foreign = |state: u8| usize::from(state) >= self.frame.states;
         let index = records.iter().position(|it| foreign(it.source) || foreign(it.target));
-        refuse_at(4, index.map(|index| self.states + index))
+        refuse_at(4, index.map(|index| self.frame.states + index))
     }
 
     /// Checks 6 and 7: no evolution to its own source, none with the states of an earlier one.
     fn check_evolutions(&self, records: &[Evolution]) -> Result<(), Answer> {
         let own = records.iter().position(|it| it.source == it.target);
-        refuse_at(6, own.map(|index| self.states + index))?;
+        refuse_at(6, own.map(|index| self.frame.states + index))?;
         let mut seen = [[false; STATES]; STATES];
         let again = records.iter().position(|it| {
             let pair = &mut seen[usize::from(it.source)][usize::from(it.target)];
             std::mem::replace(pair, true)
         });
-        refuse_at(7, again.map(|index| self.states + index))
+        refuse_at(7, again.map(|index| self.frame.states + index))
     }
 
     /// Checks 8 and 9, and the move of each couple.
@@ -220,10 +204,10 @@ impl<'a> Layout<'a> {
         table: &mut [u8],
     ) -> Result<(), Answer> {
         let mut without = None;
-        for state in 0..self.states {
+        for state in 0..self.frame.states {
             let rules = rules_of(state, texts, records);
-            for setting in 0..1 << self.inputs {
-                let couple = state << self.inputs | setting;
+            for setting in 0..1 << self.frame.inputs {
+                let couple = state << self.frame.inputs | setting;
                 let mut holding = rules.iter().filter(|rule| self.says(rule, setting));
                 match (holding.next(), holding.next()) {
                     (Some(_), Some(_)) => return Err(Answer::refused(8, couple)),
@@ -240,7 +224,7 @@ impl<'a> Layout<'a> {
     }
 
     fn holds(&self, text: &Range<usize>, setting: usize) -> Option<bool> {
-        holds(&self.file[text.clone()], self.inputs, setting)
+        holds(&self.file[text.clone()], self.frame.inputs, setting)
     }
 }
 
@@ -262,8 +246,8 @@ fn rules_of(state: usize, texts: &[Range<usize>], records: &[Evolution]) -> Vec<
 /// The first state that no sequence of settings reaches from the initial one.
 fn first_unreached(machine: &Machine) -> Option<usize> {
     let mut reached = [false; STATES];
-    let mut open = vec![machine.initial];
-    reached[machine.initial] = true;
+    let mut open = vec![machine.frame.initial];
+    reached[machine.frame.initial] = true;
     while let Some(state) = open.pop() {
         for setting in 0..machine.settings() {
             let next = machine.to(machine.couple(state, setting));
@@ -272,5 +256,5 @@ fn first_unreached(machine: &Machine) -> Option<usize> {
             }
         }
     }
-    (0..machine.states).find(|&state| !reached[state])
+    (0..machine.frame.states).find(|&state| !reached[state])
 }

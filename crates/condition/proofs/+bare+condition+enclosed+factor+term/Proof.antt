@@ -9,7 +9,7 @@ use Prim.Native.Nat.{ℕ, _+_, _*_, _-_, _<_}
 use lib.ListN.{length}
 use Rattle.condition.specs.Grammar.{or as orJoin, and as andJoin}
 use Rattle.condition.specs.Condition.{parentheses}
-use Rattle.condition.specs.Parts.{reads, stops}
+use Rattle.condition.specs.inner.Parts.{reads, stops}
 use Rattle.condition.proofs.Readings.{Passed, passed-none}
 use Rattle.condition.proofs.Parts.{is-value, is-bad, negated-found, negated-fails, one-too-many, closed-found, inside-fails, unclosed-fails, join-found, join-more, join-fails}
 use Rattle.condition.proofs.bare.Reads as bare
@@ -103,9 +103,9 @@ pub +bare+condition+enclosed+factor+term-spec : {M : Type 1} → statement M
     (bare-at t)
     bare.Post
     (λ c κs. search needs)
-    (λ c κs. (omega arith, c .before .stands .ensures .here (c .if1 .taken)))
+    (λ c κs. (omega arith, c .before .stands .ensures .holds (c .if1 .taken)))
     (λ c. search needs)
-    (λ c κs. (c .before .before .before .pre .1, c .before .stands .ensures .other (c .if1 .left)))
+    (λ c κs. (c .before .before .before .pre .1, c .before .stands .ensures .fails (c .if1 .left)))
     (λ c. c .single .ensures _))
     (λ t. condition-lts.spec
     (term-below t, term.Post, stands-reads.Asked, stands-reads.Learnt)
@@ -119,17 +119,17 @@ pub +bare+condition+enclosed+factor+term-spec : {M : Type 1} → statement M
     (λ c. stops (join-fails orJoin (c .before .before .before .before .loop .inv) (is-bad (c .before .place .given .1) (c .before .before .before .term .ensures))))
     (λ c. search needs)
     (λ c κs. search needs)
-    (λ c. let here = c .before .stands .ensures .here (c .if1 .taken) in omega arith)
+    (λ c. let here = c .before .stands .ensures .holds (c .if1 .taken) in omega arith)
     (λ c.
-    let here = c .before .stands .ensures .here (c .if1 .taken) in
+    let here = c .before .stands .ensures .holds (c .if1 .taken) in
     let x = is-value (c .before .before .before .holds .given .1) (c .before .before .before .before .before .term .ensures) in
     omega arith)
     (λ c.
     let x = is-value (c .before .before .before .holds .given .1) (c .before .before .before .before .before .term .ensures) in
-    join-more orJoin (c .before .before .before .before .before .before .loop .inv) x (c .before .stands .ensures .here (c .if1 .taken)))
+    join-more orJoin (c .before .before .before .before .before .before .loop .inv) x (c .before .stands .ensures .holds (c .if1 .taken)))
     (λ c.
     let x = is-value (c .before .before .before .holds .given .1) (c .before .before .before .before .before .term .ensures) in
-    reads (join-found orJoin (c .before .before .before .before .before .before .loop .inv) x (c .before .stands .ensures .other (c .if1 .left)))))
+    reads (join-found orJoin (c .before .before .before .before .before .before .loop .inv) x (c .before .stands .ensures .fails (c .if1 .left)))))
     (λ t. enclosed-lts.spec
     (condition-below t, condition.Post, stands-reads.Asked, stands-reads.Learnt)
     (enclosed-at t)
@@ -141,7 +141,7 @@ pub +bare+condition+enclosed+factor+term-spec : {M : Type 1} → statement M
     (λ c. search needs)
     (λ c. search needs)
     (λ c κs. search needs)
-    (λ c. let here = c .before .stands .ensures .here (c .if2 .taken) in omega arith)
+    (λ c. let here = c .before .stands .ensures .holds (c .if2 .taken) in omega arith)
     (λ c.
     let f = is-bad (c .before .place .given .1) (c .before .before .before .condition .ensures) in
     let h = c .before .before .before .before .if1 .left in
@@ -149,11 +149,11 @@ pub +bare+condition+enclosed+factor+term-spec : {M : Type 1} → statement M
     (λ c.
     let x = is-value (c .before .before .before .holds .given .1) (c .before .before .before .before .before .condition .ensures) in
     let h = c .before .before .before .before .before .before .if1 .left in
-    reads (closed-found (c .before .before .before .before .before .before .before .before .pre .1) (omega arith) x (c .before .stands .ensures .here (c .if2 .taken))))
+    reads (closed-found (c .before .before .before .before .before .before .before .before .pre .1) (omega arith) x (c .before .stands .ensures .holds (c .if2 .taken))))
     (λ c.
     let x = is-value (c .before .before .before .holds .given .1) (c .before .before .before .before .before .condition .ensures) in
     let h = c .before .before .before .before .before .before .if1 .left in
-    stops (unclosed-fails (c .before .before .before .before .before .before .before .before .pre .1) (omega arith) x (c .before .stands .ensures .other (c .if2 .left)))))
+    stops (unclosed-fails (c .before .before .before .before .before .before .before .before .pre .1) (omega arith) x (c .before .stands .ensures .fails (c .if2 .left)))))
     (λ t. factor-lts.spec
     (bangs-reads.Asked, bangs-reads.Learnt, bare-below t, bare.Post)
     (factor-at t)
@@ -176,14 +176,14 @@ pub +bare+condition+enclosed+factor+term-spec : {M : Type 1} → statement M
     (λ c. stops (join-fails andJoin (c .before .before .before .before .loop .inv) (is-bad (c .before .place .given .1) (c .before .before .before .factor .ensures))))
     (λ c. search needs)
     (λ c κs. search needs)
-    (λ c. let here = c .before .stands .ensures .here (c .if1 .taken) in omega arith)
+    (λ c. let here = c .before .stands .ensures .holds (c .if1 .taken) in omega arith)
     (λ c.
-    let here = c .before .stands .ensures .here (c .if1 .taken) in
+    let here = c .before .stands .ensures .holds (c .if1 .taken) in
     let x = is-value (c .before .before .before .holds .given .1) (c .before .before .before .before .before .factor .ensures) in
     omega arith)
     (λ c.
     let x = is-value (c .before .before .before .holds .given .1) (c .before .before .before .before .before .factor .ensures) in
-    join-more andJoin (c .before .before .before .before .before .before .loop .inv) x (c .before .stands .ensures .here (c .if1 .taken)))
+    join-more andJoin (c .before .before .before .before .before .before .loop .inv) x (c .before .stands .ensures .holds (c .if1 .taken)))
     (λ c.
     let x = is-value (c .before .before .before .holds .given .1) (c .before .before .before .before .before .factor .ensures) in
-    reads (join-found andJoin (c .before .before .before .before .before .before .loop .inv) x (c .before .stands .ensures .other (c .if1 .left))))
+    reads (join-found andJoin (c .before .before .before .before .before .before .loop .inv) x (c .before .stands .ensures .fails (c .if1 .left))))

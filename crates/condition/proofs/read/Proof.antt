@@ -5,14 +5,13 @@ use Rattle.condition.proofs.Whole.{whole, not-whole, none}
 use Rattle.condition.proofs.read.Statement.{statement}
 use Rattle.condition.proofs.read.Tie as tie
 
-returns : tie.Need-returns
-returns c = none _ (is-bad (c .enum-told .given .1) (c .before .before .condition .ensures))
-
-returns-2 : tie.Need-returns-2
-returns-2 c = whole _ (c .if1 .taken) (is-value (c .before .before .holds .given .1) (c .before .before .before .before .condition .ensures))
-
-returns-3 : tie.Need-returns-3
-returns-3 c = not-whole _ (c .if1 .left) (is-value (c .before .before .holds .given .1) (c .before .before .before .before .condition .ensures))
-
 pub read-spec : {M : Type 1} → statement M
-read-spec = tie.close (tie.spec (λ c κs. search needs) (λ c. search needs) (λ c. search needs) returns returns-2 returns-3)
+read-spec =
+    tie.close
+    (tie.spec
+    (λ c κs. search needs)
+    (λ c. search needs)
+    (λ c. search needs)
+    (λ c. none _ (is-bad (c .enum-told .given .1) (c .before .before .condition .ensures)))
+    (λ c. whole _ (c .if1 .taken) (is-value (c .before .before .holds .given .1) (c .before .before .before .before .condition .ensures)))
+    (λ c. not-whole _ (c .if1 .left) (is-value (c .before .before .holds .given .1) (c .before .before .before .before .condition .ensures))))

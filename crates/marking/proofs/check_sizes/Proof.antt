@@ -2,21 +2,22 @@
 use borrow.Author.Needs.{needs}
 use borrow.Author.Tests.{not-true, not-false}
 use native.Mathlib.Omega.{arith}
-use Rattle.marking.proofs.Checks.{couples-few, couples-are, unsized, sizes}
+use Rattle.tables.proofs.Gate.{couples-few, couples-are}
+use Rattle.marking.proofs.Checks.{unsized, sizes}
 use Rattle.marking.proofs.check_sizes.Statement.{statement}
 use Rattle.marking.proofs.check_sizes.Tie as tie
 
 returns : tie.Need-returns
 returns c = unsized (c .before .sized .ensures .fails (not-true _ (c .if1 .taken)))
 
-mul-check-room : tie.Need-mul-check-room
-mul-check-room c =
-    let z = c .before .before .sized .ensures .holds (not-false _ (c .before .if1 .left)) in
-    omega (arith, couples-are z (c .settings .ensures .0 .0), couples-few z)
+mul-needed : tie.Need-mul-needed
+mul-needed c =
+    let z = c .before .before .before .sized .ensures .holds (not-false _ (c .before .before .if1 .left)) in
+    omega (arith, couples-are z (c .before .settings .ensures .0 .0), couples-few z)
 
 returns-2 : tie.Need-returns-2
-returns-2 c = sizes (c .before .before .before .sized .ensures .holds (not-false _ (c .before .before .if1 .left))) (c .before .settings .ensures .0 .0) (c .check-room .ensures)
+returns-2 c = sizes (c .before .before .before .before .sized .ensures .holds (not-false _ (c .before .before .before .if1 .left))) (c .before .before .settings .ensures .0 .0) (c .check-rooms .ensures)
 
 pub check-sizes-spec : {M : Type 1} → statement M
 check-sizes-spec =
-    tie.close (tie.spec (λ c κs. search needs) returns (λ c κs. search needs) mul-check-room (λ c κs. search needs) returns-2)
+    tie.close (tie.spec (λ c κs. search needs) returns (λ c κs. search needs) mul-needed (λ c κs. search needs) returns-2)

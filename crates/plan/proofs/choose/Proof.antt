@@ -3,7 +3,7 @@ use mathlib.Core.Path.{_≡_, refl}
 use Prim.Native.Nat.{_-_, _≤_}
 use native.Mathlib.Omega.{arith}
 use lib.ListN.{length}
-use Rattle.plan.specs.Choosing.{Chosen}
+use Rattle.plan.specs.inner.Choosing.{Chosen}
 use Rattle.plan.proofs.Turns.{chosen-none, chosen-more}
 use Rattle.plan.proofs.choose.Statement.{statement}
 use Rattle.plan.proofs.choose.Tie as tie

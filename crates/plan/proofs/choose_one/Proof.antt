@@ -1,5 +1,6 @@
 -- Each return is one case of a turn: the couple is not marked, visited already, or chosen.
 use borrow.Author.Needs.{needs}
+use native.Mathlib.Omega.{arith}
 use Rattle.plan.proofs.Turns.{turn-unmarked, turn-visited, turn-taken}
 use Rattle.plan.proofs.choose_one.Statement.{statement}
 use Rattle.plan.proofs.choose_one.Tie as tie
@@ -29,7 +30,7 @@ returns-3 c =
     (r .result)
     _
     (r .ensures .0)
-    (r .ensures .1)
+    (omega (arith, r .ensures .1))
     (c .before .before .before .before .before .before .before .before .if1 .left)
     (c .before .before .before .before .before .before .if2 .left)
     (c .before .before .note-run .ensures)

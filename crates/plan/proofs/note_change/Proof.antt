@@ -5,7 +5,7 @@ use Prim.Native.Nat.{ℕ, _+_, _*_, _/_}
 use native.Mathlib.Omega.{arith}
 use lib.ListN.{set, length-set}
 use borrow.Author.Needs.{needs}
-use Rattle.plan.specs.Choosing.{notedChange}
+use Rattle.plan.specs.inner.Choosing.{notedChange}
 use Rattle.plan.proofs.note_change.Statement.{statement}
 use Rattle.plan.proofs.note_change.Tie as tie
 

@@ -3,7 +3,7 @@ use mathlib.Core.Path.{_≡_, refl, _∙_}
 use Prim.Native.Nat.{_-_}
 use native.Mathlib.Omega.{arith}
 use lib.ListN.{length, length-set}
-use Rattle.plan.specs.Choosing.{RoomFor, notedRun}
+use Rattle.plan.specs.inner.Choosing.{RoomFor, notedRun}
 use Rattle.plan.proofs.Turns.{noted-back, parent-room, change-room}
 use native.Mathlib.Nat.{mod-lt}
 use Rattle.plan.proofs.note_run.Statement.{statement}

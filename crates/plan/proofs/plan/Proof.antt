@@ -3,49 +3,50 @@
 use native.Mathlib.Nat.{le-refl}
 use native.Mathlib.Omega.{arith}
 use borrow.Author.Needs.{needs}
+use mathlib.Core.Path.{refl}
 use Rattle.machine.specs.Limits.{mostCouples}
 use Rattle.plan.proofs.Flags.{chosen-bytes, chosen-plan, chosen-flags}
-use Rattle.plan.proofs.Marked.{lent, ready-with, tree, room, rank-low}
+use Rattle.plan.proofs.Marked.{ready, few-couples, tree, room, rank-low}
 use Rattle.plan.proofs.Outcomes.{plan-refused, plan-short, plan-written}
 use Rattle.plan.proofs.plan.Statement.{statement}
 use Rattle.plan.proofs.plan.Tie as tie
 
 returns : tie.Need-returns
-returns c = plan-refused (c .before .before .before .before .before .mark-parents .ensures) lent (c .if1 .taken) (c .before .before .before .before .before .before .before .before .before .before .before .args .plan .now)
+returns c = plan-refused (c .before .before .before .before .before .mark-parents .ensures) refl (c .if1 .taken) (c .before .before .before .before .before .before .before .before .before .before .before .args .plan .now)
 
 mul-couples : tie.Need-mul-couples
 mul-couples c =
-    let (y, e) = ready-with (c .before .before .before .before .before .before .mark-parents .ensures) lent (c .before .if1 .left) (c .settings .ensures .0 .0) in
-    rw e (omega (arith, y .few-couples))
+    let (y, e) = ready (c .before .before .before .before .before .before .before .mark-parents .ensures) refl (c .before .before .if1 .left) (c .before .settings .ensures .0 .0) in
+    rw e (omega (arith, few-couples y))
 
 choose-requires : tie.Need-choose-requires
 choose-requires c κs =
-    let (y, e) = ready-with (c .before .before .before .before .before .before .before .before .before .before .mark-parents .ensures) lent (c .before .before .before .before .before .if1 .left) (c .before .before .before .before .settings .ensures .0 .0) in
-    rw e (room y mostCouples (le-refl mostCouples), (y .ranks-long, y .few-couples, y .few-couples))
+    let (y, e) = ready (c .before .before .before .before .before .before .before .before .before .before .before .mark-parents .ensures) refl (c .before .before .before .before .before .before .if1 .left) (c .before .before .before .before .before .settings .ensures .0 .0) in
+    rw e (room y mostCouples (le-refl mostCouples), (y .long, few-couples y, few-couples y))
 
 returns-2 : tie.Need-returns-2
 returns-2 c =
-    let (y, e) = ready-with (c .before .before .before .before .before .before .before .before .before .before .before .before .before .before .mark-parents .ensures) lent (c .before .before .before .before .before .before .before .before .before .if1 .left) (c .before .before .before .before .before .before .before .before .settings .ensures .0 .0) in
+    let (y, e) = ready (c .before .before .before .before .before .before .before .before .before .before .before .before .before .before .before .mark-parents .ensures) refl (c .before .before .before .before .before .before .before .before .before .before .if1 .left) (c .before .before .before .before .before .before .before .before .before .settings .ensures .0 .0) in
     let made = rw e at (c .before .before .before .choose .ensures) in
-    plan-short y made (y .few-couples) (c .if2 .taken)
+    plan-short y made (few-couples y) (c .if2 .taken)
 
 write-plan-requires : tie.Need-write-plan-requires
 write-plan-requires c κs =
-    let (y, e) = ready-with (c .before .before .before .before .before .before .before .before .before .before .before .before .before .before .before .before .before .before .mark-parents .ensures) lent (c .before .before .before .before .before .before .before .before .before .before .before .before .before .if1 .left) (c .before .before .before .before .before .before .before .before .before .before .before .before .settings .ensures .0 .0) in
+    let (y, e) = ready (c .before .before .before .before .before .before .before .before .before .before .before .before .before .before .before .before .before .before .before .mark-parents .ensures) refl (c .before .before .before .before .before .before .before .before .before .before .before .before .before .before .if1 .left) (c .before .before .before .before .before .before .before .before .before .before .before .before .before .settings .ensures .0 .0) in
     let made = rw e at (c .before .before .before .before .before .before .before .choose .ensures) in
     rw e (
       tree y,
       (
-        chosen-flags made (y .few-couples) (y .ranks-long) (rank-low y),
-        rw (chosen-plan made (y .few-couples), ← chosen-bytes made) (c .before .before .before .before .if2 .left),
+        chosen-flags made (few-couples y) (y .long) (rank-low y),
+        rw (chosen-plan made (few-couples y), ← chosen-bytes made) (c .before .before .before .before .if2 .left),
       ),
     )
 
 returns-3 : tie.Need-returns-3
 returns-3 c =
-    let (y, e) = ready-with (c .before .before .before .before .before .before .before .before .before .before .before .before .before .before .before .before .before .before .before .before .before .mark-parents .ensures) lent (c .before .before .before .before .before .before .before .before .before .before .before .before .before .before .before .before .if1 .left) (c .before .before .before .before .before .before .before .before .before .before .before .before .before .before .before .settings .ensures .0 .0) in
+    let (y, e) = ready (c .before .before .before .before .before .before .before .before .before .before .before .before .before .before .before .before .before .before .before .before .before .before .mark-parents .ensures) refl (c .before .before .before .before .before .before .before .before .before .before .before .before .before .before .before .before .before .if1 .left) (c .before .before .before .before .before .before .before .before .before .before .before .before .before .before .before .before .settings .ensures .0 .0) in
     let made = rw e at (c .before .before .before .before .before .before .before .before .before .before .choose .ensures) in
-    plan-written y made (y .few-couples) (y .few-couples) (c .before .before .before .before .before .before .before .if2 .left) (rw e at (c .before .before .write-plan .ensures))
+    plan-written y made (few-couples y) (few-couples y) (c .before .before .before .before .before .before .before .if2 .left) (rw e at (c .before .before .write-plan .ensures))
 
 pub plan-spec : {M : Type 1} → statement M
 plan-spec =

@@ -3,7 +3,7 @@ use mathlib.Core.Path.{_≡_, refl}
 use Prim.Native.Nat.{_-_, _≤_}
 use native.Mathlib.Omega.{arith}
 use lib.ListN.{length}
-use Rattle.plan.specs.Writing.{piece, pieces, Put}
+use Rattle.plan.specs.inner.Writing.{piece, pieces, Put}
 use Rattle.plan.proofs.Fronts.{rest-lent, put-front, put-none, put-reach, put-more}
 use Rattle.plan.proofs.Chains.{pieces-fit, pieces-more, pieces-none}
 use Rattle.plan.proofs.write_plan.Statement.{statement}

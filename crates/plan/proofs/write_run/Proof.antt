@@ -2,16 +2,17 @@
 use mathlib.Core.Path.{_≡_, refl, sym, _∙_}
 use mathlib.Core.List.{_++_}
 use Prim.Native.Nat.{_+_, _-_, _≤_}
+use native.Mathlib.Nat.{mod-eq-of-lt}
 use native.Mathlib.Omega.{arith}
 use lib.ListN.{length, drop, length-set}
 use borrow.Author.Needs.{needs}
-use Rattle.plan.specs.Writing.{settings, Within}
-use Rattle.plan.proofs.Chains.{settings-none, settings-back, length-settings, parent-within, setting-small}
+use Rattle.plan.specs.inner.Writing.{settings, InTree}
+use Rattle.plan.proofs.Chains.{settings-none, settings-back, length-settings, parent-in-tree, setting-small}
 use Rattle.plan.proofs.write_run.Statement.{statement}
 use Rattle.plan.proofs.write_run.Tie as tie
 
 abbrev Inv-loop : tie.InvT-loop
-Inv-loop parents size couple rank run₀ c₀ left₀ run c left = (left ≤ rank + 1) × Within parents size c × (length run ≡ length run₀) × (settings parents size c left ++ drop left run ≡ settings parents size couple (rank + 1) ++ drop (rank + 1) run₀)
+Inv-loop parents size couple rank run₀ c₀ left₀ run c left = (left ≤ rank + 1) × InTree parents size c × (length run ≡ length run₀) × (settings parents size c left ++ drop left run ≡ settings parents size couple (rank + 1) ++ drop (rank + 1) run₀)
 
 abbrev μ-loop : tie.MeasureT-loop
 μ-loop parents size couple rank run₀ c₀ left₀ run c left = left
@@ -21,9 +22,6 @@ loop-holds c = (omega arith, c .before .before .pre .0, refl, refl)
 
 rem-byte : tie.Need-rem-byte Inv-loop μ-loop
 rem-byte c = c .before .loop .inv .1 .tree .some
-
-byte-requires : tie.Need-byte-requires Inv-loop μ-loop
-byte-requires c κs = setting-small (c .before .loop .inv .1) (c .before .loop .c)
 
 mul-long : tie.Need-mul-long Inv-loop μ-loop
 mul-long c = omega (arith, c .before .before .loop .inv .1 .tree .long)
@@ -35,11 +33,11 @@ loop-again : tie.Need-loop-again Inv-loop μ-loop
 loop-again c =
     let l = c .before .before .before .before .loop in
     let a = c .before .before .before .before .before .before .before .args in
-    let w = parent-within (l .inv .1) in (
+    let w = parent-in-tree (l .inv .1) in (
       omega arith,
       rw (c .long .ensures .0) w,
       simp length-set (l .inv .2),
-      rw (c .long .ensures .0, c .before .before .byte .ensures) (settings-back (a .parents .now) (a .size) (l .c) (l .left - 1) (l .left) (l .run) (omega arith) (omega arith) ∙ l .inv .3),
+      rw (c .long .ensures .0, c .before .before .byte .ensures ∙ mod-eq-of-lt (setting-small (l .inv .1) (l .c))) (settings-back (a .parents .now) (a .size) (l .c) (l .left - 1) (l .left) (l .run) (omega arith) (omega arith) ∙ l .inv .3),
     )
 
 returns : tie.Need-returns Inv-loop μ-loop
@@ -61,7 +59,7 @@ write-run-spec =
     loop-holds
     (λ c. omega arith)
     rem-byte
-    byte-requires
+    (λ c κs. search needs)
     (λ c. omega arith)
     mul-long
     shared-slice-read-long

@@ -1,30 +1,36 @@
--- `check_shape` judges refusals 2 and 3, and promises the sizes that later work relies on.
+-- `check_shape` refuses by 2, or leaves refusal 3 to the check of three buffers.
 use borrow.Author.Needs.{needs}
 use native.Mathlib.Omega.{arith}
-use mathlib.Core.Path.{ap}
-use Prim.Native.Nat.{ℕ, _*_}
+use mathlib.Core.Path.{subst₂}
+use Prim.Native.Nat.{ℕ}
+use lib.ListN.{length}
 use borrow.Author.Tests.{not-true, not-false}
-use Rattle.verdict.proofs.Order.{halt}
-use Rattle.verdict.proofs.Tests.{whole}
-use Rattle.machine.proofs.Couples.{couples-bound}
-use Rattle.readings.proofs.Outcomes.{shape-judged}
+use Rattle.verdict.specs.Checks.{Judged, Passed}
+use Rattle.verdict.proofs.Order.{pass, halt}
+use Rattle.verdict.proofs.Tests.{whole, meets}
+use Rattle.tables.specs.Tables.{roomChecks}
+use Rattle.tables.proofs.Gate.{couples-are, couples-few}
 use Rattle.readings.proofs.check_shape.Statement.{statement}
 use Rattle.readings.proofs.check_shape.Tie as tie
 
 returns : tie.Need-returns
-returns c = (halt (whole (λ x. c .before .sized .ensures .fails (not-true _ (c .if1 .taken)) (x .sizes))), λ e. omega arith)
+returns c = halt (whole (λ x. c .before .sized .ensures .fails (not-true _ (c .if1 .taken)) (x .sizes)))
 
 returns-2 : tie.Need-returns-2
-returns-2 c = (halt (whole (λ x. omega (arith, x .few-settings))), λ e. omega arith)
+returns-2 c = halt (whole (λ x. omega (arith, x .few-settings)))
 
-mul-couples : tie.Need-mul-couples
-mul-couples c = omega (arith, couples-bound (c .before .before .before .before .before .before .before .args .states) (c .settings .result) (c .before .before .before .sized .ensures .holds (not-false _ (c .before .before .if1 .left)) .few-states) (c .settings .ensures .0 .1))
+mul-t12 : tie.Need-mul-t12
+mul-t12 c =
+    let z = c .before .before .before .before .sized .ensures .holds (not-false _ (c .before .before .before .if1 .left)) in
+    omega (arith, couples-are z (c .before .settings .ensures .0 .0), couples-few z)
 
 returns-3 : tie.Need-returns-3
 returns-3 c =
-    let s = c .before .before .before .before .before .sized .ensures .holds (not-false _ (c .before .before .before .before .if1 .left)) in
-    let e = ap (λ (k : ℕ). c .before .before .before .before .before .before .before .before .before .args .states * k) (c .before .before .settings .ensures .0 .0 (s .few-inputs)) in
-    shape-judged (record { sizes = s; few-settings = c .before .before .before .if2 .left }) e (c .before .needed .ensures) (c .check-room .ensures)
+    let a = c .before .before .before .before .before .before .before .before .before .before .args in
+    let z = c .before .before .before .before .before .before .sized .ensures .holds (not-false _ (c .before .before .before .before .before .if1 .left)) in
+    pass (meets (record { sizes = z; few-settings = c .before .before .before .before .if2 .left }))
+    (subst₂ (λ (k n : ℕ). Judged (roomChecks (record { needed = k; has = length (a .table .now) }) (record { needed = a .frame .states; has = length (a .words .now) }) (record { needed = n; has = a .room })) Passed (c .check-rooms .result))
+    (couples-are z (c .before .before .before .settings .ensures .0 .0)) (c .before .needed .ensures) (c .check-rooms .ensures))
 
 pub check-shape-spec : {M : Type 1} → statement M
 check-shape-spec =
@@ -34,7 +40,7 @@ check-shape-spec =
     returns
     returns-2
     (λ c κs. search needs)
-    mul-couples
+    mul-t12
     (λ c κs. search needs)
     (λ c κs. search needs)
     returns-3)

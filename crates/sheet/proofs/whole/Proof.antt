@@ -1,7 +1,7 @@
 -- A text that was written whole is not short.
 use borrow.Author.Needs.{needs}
 use mathlib.Core.Path.{subst}
-use Rattle.sheet.specs.Steps.{Whole}
+use Rattle.sheet.specs.inner.Steps.{Whole}
 use Rattle.sheet.proofs.whole.Statement.{statement}
 use Rattle.sheet.proofs.whole.Tie as tie
 

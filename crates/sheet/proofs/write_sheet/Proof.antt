@@ -12,16 +12,16 @@ returns : tie.Need-returns
 returns c = record { text = _; is = refused (answers (c .before .before .before .before .before .before .before .before .before .read-here .ensures) (lent mostCouples) (lent mostStates)) (c .before .before .before .before .if1 .taken); writes = c .before .before .write-refusal .ensures }
 
 mul-couples : tie.Need-mul-couples
-mul-couples c = omega (arith, table-few (c .before .before .before .before .before .before .before .read-here .ensures) (lent mostCouples) (lent mostStates) (c .before .before .if1 .left) (c .before .settings .ensures .0 .0))
+mul-couples c = omega (arith, table-few (c .before .before .before .before .before .before .before .before .read-here .ensures) (lent mostCouples) (lent mostStates) (c .before .before .before .if1 .left) (c .before .settings .ensures .0 .0))
 
 part-write-plan-end : tie.Need-part-write-plan-end
-part-write-plan-end c = table-reach (c .before .before .before .before .before .before .before .before .read-here .ensures) (lent mostCouples) (lent mostStates) (c .before .before .before .if1 .left) (c .before .before .settings .ensures .0 .0)
+part-write-plan-end c = table-reach (c .before .before .before .before .before .before .before .before .before .read-here .ensures) (lent mostCouples) (lent mostStates) (c .before .before .before .before .if1 .left) (c .before .before .settings .ensures .0 .0)
 
 write-plan-requires : tie.Need-write-plan-requires
-write-plan-requires c κs = ready (c .before .before .before .before .before .before .before .before .before .before .read-here .ensures) (lent mostCouples) (lent mostStates) (c .before .before .before .before .before .if1 .left) (c .before .before .before .before .settings .ensures .0 .0) (omega (arith, c .before .before .before .before .before .before .before .before .before .before .before .before .before .before .before .pre))
+write-plan-requires c κs = ready (c .before .before .before .before .before .before .before .before .before .before .before .read-here .ensures) (lent mostCouples) (lent mostStates) (c .before .before .before .before .before .before .if1 .left) (c .before .before .before .before .settings .ensures .0 .0) (omega (arith, c .before .before .before .before .before .before .before .before .before .before .before .before .before .before .before .before .pre))
 
 returns-2 : tie.Need-returns-2
-returns-2 c = record { text = _; is = read-printed (c .before .before .before .before .before .before .before .before .before .before .before .before .before .read-here .ensures) (lent mostCouples) (lent mostStates) (c .before .before .before .before .before .before .before .before .if1 .left) (c .before .before .before .before .before .before .before .settings .ensures .0 .0) (c .before .before .write-plan .ensures .is); writes = c .before .before .write-plan .ensures .writes }
+returns-2 c = record { text = _; is = read-printed (c .before .before .before .before .before .before .before .before .before .before .before .before .before .before .read-here .ensures) (lent mostCouples) (lent mostStates) (c .before .before .before .before .before .before .before .before .before .if1 .left) (c .before .before .before .before .before .before .before .settings .ensures .0 .0) (c .before .before .write-plan .ensures .is); writes = c .before .before .write-plan .ensures .writes }
 
 pub write-sheet-spec : {M : Type 1} → statement M
 write-sheet-spec =

@@ -22,7 +22,7 @@ loop-holds : tie.Need-loop-holds Inv-loop μ-loop
 loop-holds c = (omega arith, left-all)
 
 loop-again : tie.Need-loop-again Inv-loop μ-loop
-loop-again c = (omega arith, left-less (rw (drop-next (c .before .before .before .before .before .before .before .before .before .before .args .settings .now) (c .before .before .before .before .before .before .before .loop .i) (c .before .before .before .before .before .before .loop-test .taken)) at (c .before .before .before .before .before .before .before .loop .inv .1)) (rw (c .before .before .before .before .wide .ensures .0) at (c .before .before .field .ensures)))
+loop-again c = (omega arith, left-less (rw (drop-next (c .before .before .before .before .before .before .before .before .before .args .settings .now) (c .before .before .before .before .before .before .loop .i) (c .before .before .before .before .before .loop-test .taken)) at (c .before .before .before .before .before .before .loop .inv .1)) (rw (c .before .before .before .before .setting .ensures .0) at (c .before .before .field .ensures)))
 
 same-length : tie.Need-same-length Inv-loop μ-loop
 same-length c = c .before .before .byte .ensures .same-length ∙ c .before .before .before .before .before .loop .inv .1 .adds .same-length
@@ -37,7 +37,6 @@ fields-spec =
     Inv-loop
     μ-loop
     loop-holds
-    (λ c. search needs)
     (λ c κs. search needs)
     (λ c κs. search needs)
     (λ c. search needs)

@@ -5,8 +5,8 @@ use Prim.Native.Nat.{_+_, _-_, _≤_}
 use lib.ListN.{length, drop, length-drop}
 use native.Mathlib.Numerals.{add-one}
 use Rattle.machine.specs.Plans.{runsIn}
+use Rattle.runs.proofs.Split.{runs-none, next-run}
 use Rattle.show.specs.Sheet.{runLines}
-use Rattle.show.proofs.Runs.{runs-none}
 use Rattle.show.proofs.Steps.{Left, left-all, left-less, left-none}
 use Rattle.show.proofs.run_lines.Statement.{statement}
 use Rattle.show.proofs.run_lines.Tie as tie
@@ -21,7 +21,7 @@ loop-holds : tie.Need-loop-holds Inv-loop μ-loop
 loop-holds c = (omega arith, omega arith, left-all)
 
 loop-again : tie.Need-loop-again Inv-loop μ-loop
-loop-again c = (omega arith, omega arith, rw add-one (left-less (rw (c .before .before .before .before .before .run-end .ensures .runs) at (c .before .before .before .before .before .before .before .loop .inv .2)) (c .before .before .run-line .ensures)))
+loop-again c = (omega arith, omega arith, rw add-one (left-less (rw (next-run (c .before .before .before .before .before .before .before .before .before .before .args .plan .now) (c .before .before .before .before .before .before .before .loop .at) (c .before .before .before .before .before .run-end .ensures) (omega arith)) at (c .before .before .before .before .before .before .before .loop .inv .2)) (c .before .before .run-line .ensures)))
 
 same-length : tie.Need-same-length Inv-loop μ-loop
 same-length c = c .before .loop .inv .2 .adds .same-length

@@ -1,6 +1,6 @@
 -- `change` is two pushes, one after the other, to the two couples that a change visits.
 use mathlib.Core.Path.{ap}
-use Prim.Native.Nat.{ℕ, _+_, _*_}
+use Prim.Native.Nat.{ℕ, _*_}
 use borrow.Author.Needs.{needs}
 use native.Mathlib.Omega.{arith}
 use Rattle.marking.proofs.Expanding.{change-both}
@@ -8,16 +8,16 @@ use Rattle.marking.proofs.queue.change.Statement.{statement}
 use Rattle.marking.proofs.queue.change.Tie as tie
 
 mul-moved : tie.Need-mul-moved
-mul-moved c = omega (arith, c .before .before .before .before .before .before .before .before .pre .1 .second, ap (λ (t : ℕ). t * c .before .before .before .before .before .before .before .before .args .inputs .settings) (c .before .wide .ensures .0))
+mul-moved c = omega (arith, c .before .before .before .before .before .before .before .before .pre .1 .second, ap (λ (t : ℕ). t * c .before .before .before .before .before .before .before .before .args .sizes .settings) (c .before .wide .ensures .0))
 
 add-moved : tie.Need-add-moved
-add-moved c = omega (arith, c .before .before .before .before .before .before .before .before .pre .1 .second, ap (λ (t : ℕ). t * c .before .before .before .before .before .before .before .before .args .inputs .settings) (c .before .wide .ensures .0))
+add-moved c = omega (arith, c .before .before .before .before .before .before .before .before .pre .1 .second, ap (λ (t : ℕ). t * c .before .before .before .before .before .before .before .before .args .sizes .settings) (c .before .wide .ensures .0))
 
 push-requires-2 : tie.Need-push-requires-2
-push-requires-2 c κs = (c .before .before .before .before .before .before .before .before .before .push .ensures .room, omega (arith, c .before .before .before .before .before .before .before .before .before .push .ensures .same-length, c .before .before .before .before .before .before .before .before .before .before .before .before .before .before .before .before .before .before .before .before .before .pre .1 .first, c .before .before .before .before .before .before .before .before .before .before .before .before .before .before .before .before .before .before .before .before .before .pre .1 .second, ap (λ (t : ℕ). t * c .before .before .before .before .before .before .before .before .before .before .before .before .before .before .before .before .before .before .before .before .before .args .inputs .settings) (c .before .before .before .before .before .before .before .before .before .before .before .before .before .before .wide .ensures .0)), c .before .before .before .before .before .before .before .before .before .before .before .before .before .before .before .before .before .before .before .before .before .pre .2)
+push-requires-2 c κs = (c .before .before .before .before .before .before .before .before .before .push .ensures .room, omega (arith, c .before .before .before .before .before .before .before .before .before .push .ensures .same-length, c .before .before .before .before .before .before .before .before .before .before .before .before .before .before .before .before .before .before .before .before .before .pre .1 .first, c .before .before .before .before .before .before .before .before .before .before .before .before .before .before .before .before .before .before .before .before .before .pre .1 .second, ap (λ (t : ℕ). t * c .before .before .before .before .before .before .before .before .before .before .before .before .before .before .before .before .before .before .before .before .before .args .sizes .settings) (c .before .before .before .before .before .before .before .before .before .before .before .before .before .before .wide .ensures .0)), c .before .before .before .before .before .before .before .before .before .before .before .before .before .before .before .before .before .before .before .before .before .pre .2)
 
 returns : tie.Need-returns
-returns c = change-both (c .before .before .before .before .before .before .before .before .before .before .before .before .before .before .before .before .before .before .before .before .before .before .before .before .before .before .before .before .args .table .now) (c .before .before .before .before .before .before .before .before .before .before .before .before .before .before .before .before .before .before .before .before .before .before .before .before .before .before .before .before .args .inputs .settings) (c .before .before .before .before .before .before .before .before .before .before .before .before .before .before .before .before .before .before .before .before .before .before .before .before .before .before .before .before .args .state) (c .before .before .before .before .before .before .before .before .before .before .before .before .before .before .before .before .before .before .before .before .before .before .before .before .before .before .before .before .args .setting) _ (c .before .before .before .before .before .before .before .before .before .before .before .before .before .before .before .before .before .before .before .before .before .before .before .before .before .before .before .before .pre .2) (c .before .before .before .before .before .before .before .before .before .before .before .before .before .before .before .before .before .before .before .before .before .wide .ensures .0) (c .before .before .before .before .before .before .before .before .before .before .before .before .before .before .before .before .push .ensures) (c .before .before .before .before .before .before .push2 .ensures)
+returns c = change-both (c .before .before .before .before .before .before .before .before .before .before .before .before .before .before .before .before .before .before .before .before .before .before .before .before .before .before .before .before .args .table .now) (c .before .before .before .before .before .before .before .before .before .before .before .before .before .before .before .before .before .before .before .before .before .before .before .before .before .before .before .before .args .sizes .settings) (c .before .before .before .before .before .before .before .before .before .before .before .before .before .before .before .before .before .before .before .before .before .before .before .before .before .before .before .before .args .state) (c .before .before .before .before .before .before .before .before .before .before .before .before .before .before .before .before .before .before .before .before .before .before .before .before .before .before .before .before .args .setting) _ (c .before .before .before .before .before .before .before .before .before .before .before .before .before .before .before .before .before .before .before .before .before .before .before .before .before .before .before .before .pre .2) (c .before .before .before .before .before .before .before .before .before .before .before .before .before .before .before .before .before .before .before .before .before .wide .ensures .0) (c .before .before .before .before .before .before .before .before .before .before .before .before .before .before .before .before .push .ensures) (c .before .before .before .before .before .before .push2 .ensures)
 
 pub change-spec : {M : Type 1} → statement M
 change-spec =

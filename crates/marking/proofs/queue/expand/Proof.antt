@@ -1,27 +1,24 @@
 -- `expand` offers to what a change of one of the first i inputs visits; the weight is 2 ^ i.
 use lib.Pow.{pow-pos}
 use Rattle.machine.proofs.Couples.{settings-bound}
-use Rattle.marking.proofs.Expanding.{power-more, settings-pos, setting-below, settings-few, targets, inputs-more}
-use Rattle.marking.proofs.Pushing.{pushed-none}
-use Rattle.marking.specs.Queue.{Pushed, ByInputs}
-use Rattle.machine.specs.Flips.{flipped}
+use Rattle.marking.proofs.Expanding.{power-more, settings-pos, setting-below, settings-few, targets, one-more}
+use Rattle.marking.proofs.Pushing.{narrowed, pushed-none}
+use Rattle.marking.specs.inner.Queue.{Pushed, ByChange, ByInputs}
+use Rattle.machine.specs.inner.Flips.{flipped}
 use borrow.Author.Needs.{needs}
 use native.Mathlib.Omega.{arith}
 use mathlib.Core.Path.{_≡_, refl, ap, _∙_}
-use Prim.Native.Nat.{_-_, _≤_, _^_}
+use Prim.Native.Nat.{_-_, _/_, _%_, _≤_, _^_}
 use lib.ListN.{length}
 use Rattle.marking.proofs.queue.expand.Statement.{statement}
 use Rattle.marking.proofs.queue.expand.Tie as tie
 
 abbrev Inv-loop : tie.InvT-loop
-Inv-loop table ranks₀ parents₀ queue₀ tail inputs couple rank state setting offer end₀ weight₀ i₀ ranks parents queue end weight i =
-    (i ≤ inputs .count) × (weight ≡ 2 ^ i) × Pushed (ByInputs table (inputs .settings) couple i) rank couple ranks₀ parents₀ queue₀ tail ranks parents queue end × (length parents ≡ length parents₀) × (length queue ≡ length queue₀)
+Inv-loop table ranks₀ parents₀ queue₀ tail sizes couple rank state setting offer end₀ weight₀ i₀ ranks parents queue end weight i =
+    (i ≤ sizes .frame .inputs) × (weight ≡ 2 ^ i) × Pushed (ByInputs table (sizes .settings) couple i) rank couple ranks₀ parents₀ queue₀ tail ranks parents queue end × (length parents ≡ length parents₀) × (length queue ≡ length queue₀)
 
 abbrev μ-loop : tie.MeasureT-loop
-μ-loop table ranks₀ parents₀ queue₀ tail inputs couple rank state setting offer end₀ weight₀ i₀ ranks parents queue end weight i = inputs .count - i
-
-narrow-requires : tie.Need-narrow-requires Inv-loop μ-loop
-narrow-requires c κs = omega (arith, c .before .before .before .before .before .before .pre .below, c .before .before .before .before .before .before .pre .room .few)
+μ-loop table ranks₀ parents₀ queue₀ tail sizes couple rank state setting offer end₀ weight₀ i₀ ranks parents queue end weight i = sizes .frame .inputs - i
 
 loop-holds : tie.Need-loop-holds Inv-loop μ-loop
 loop-holds c = (omega arith, refl, pushed-none (c .before .before .before .before .before .before .before .pre .room) (λ d (j, l, b). omega arith), refl, refl)
@@ -45,13 +42,13 @@ loop-again c =
     let e = c .before .before .before .before .before .before .before .before .before .before .flip .ensures ∙ ap (flipped _) (l .inv .1) in (
       omega arith,
       rw (l .inv .1) (power-more (l .i)),
-      inputs-more (c .before .before .before .before .before .before .before .before .before .before .before .before .before .before .before .before .before .before .before .before .before .args .table .now) (c .before .before .before .before .before .before .before .before .before .before .before .before .before .before .before .before .before .before .before .before .before .args .inputs .settings) (c .before .before .before .before .before .before .before .before .before .before .before .before .before .before .before .before .before .before .before .before .before .args .couple) (l .i) (c .before .before .before .before .before .before .before .before .before .before .before .before .before .before .before .before .before .before .before .before .before .pre .small) (l .inv .2) (rw (c .before .before .before .before .before .before .before .before .before .before .before .before .before .before .narrow .ensures, e) at (c .before .before .before .before .before .before .change .ensures)),
+      one-more (λ j. ByChange (c .before .before .before .before .before .before .before .before .before .before .before .before .before .before .before .before .before .before .before .before .before .args .table .now) (c .before .before .before .before .before .before .before .before .before .before .before .before .before .before .before .before .before .before .before .before .before .args .sizes .settings) (c .before .before .before .before .before .before .before .before .before .before .before .before .before .before .before .before .before .before .before .before .before .args .couple / c .before .before .before .before .before .before .before .before .before .before .before .before .before .before .before .before .before .before .before .before .before .args .sizes .settings) (flipped (c .before .before .before .before .before .before .before .before .before .before .before .before .before .before .before .before .before .before .before .before .before .args .couple % c .before .before .before .before .before .before .before .before .before .before .before .before .before .before .before .before .before .before .before .before .before .args .sizes .settings) (2 ^ j))) (l .i) (c .before .before .before .before .before .before .before .before .before .before .before .before .before .before .before .before .before .before .before .before .before .pre .small) (l .inv .2) (rw (narrowed (c .before .before .before .before .before .before .before .before .before .before .before .before .before .before .before .before .before .before .before .before .before .pre .room) (c .before .before .before .before .before .before .before .before .before .before .before .before .before .before .before .before .before .before .before .before .before .pre .below) (c .before .before .before .before .before .before .before .before .before .before .before .before .before .before .narrow .ensures), e) at (c .before .before .before .before .before .before .change .ensures)),
       omega arith,
       omega arith,
     )
 
 returns : tie.Need-returns Inv-loop μ-loop
-returns c = let e : c .before .before .loop .i ≡ c .before .before .before .before .before .before .before .before .before .before .args .inputs .count = omega arith in rw e at (c .before .before .loop .inv .2)
+returns c = let e : c .before .before .loop .i ≡ c .before .before .before .before .before .before .before .before .before .before .args .sizes .frame .inputs = omega arith in rw e at (c .before .before .loop .inv .2)
 
 pub expand-spec : {M : Type 1} → statement M
 expand-spec =
@@ -61,7 +58,7 @@ expand-spec =
     μ-loop
     (λ c. search (settings-pos, needs))
     (λ c. search (settings-pos, needs))
-    narrow-requires
+    (λ c κs. search needs)
     loop-holds
     flip-requires
     change-requires

@@ -1,7 +1,7 @@
 -- `flip` computes `flipped`: where the input is on, its weight is part of the setting.
 use borrow.Author.Needs.{needs}
 use borrow.Author.Tests.{eq-eqb, ne-eqb}
-use Rattle.machine.specs.Flips.{flipped}
+use Rattle.machine.specs.inner.Flips.{flipped}
 use Rattle.marking.proofs.Expanding.{on-room}
 use Rattle.marking.proofs.queue.flip.Statement.{statement}
 use Rattle.marking.proofs.queue.flip.Tie as tie

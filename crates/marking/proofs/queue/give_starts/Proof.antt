@@ -1,12 +1,12 @@
 -- `give_starts` offers rank 0 to the starts among the first v settings.
-use Rattle.marking.proofs.Expanding.{starts-more}
+use Rattle.marking.proofs.Expanding.{one-more}
 use Rattle.marking.proofs.Pushing.{pushed-none}
-use Rattle.marking.specs.Queue.{Pushed, ByStart}
+use Rattle.marking.specs.inner.Queue.{Pushed, ByStart}
 use borrow.Author.Needs.{needs}
 use native.Mathlib.Omega.{arith}
 use mathlib.Core.Path.{_≡_, refl}
-use Prim.Native.Nat.{_-_, _≤_}
-use lib.ListN.{length}
+use Prim.Native.Nat.{_+_, _*_, _-_, _≤_}
+use lib.ListN.{length, getD}
 use Rattle.marking.proofs.queue.give_starts.Statement.{statement}
 use Rattle.marking.proofs.queue.give_starts.Tie as tie
 
@@ -18,13 +18,13 @@ abbrev μ-loop : tie.MeasureT-loop
 μ-loop table ranks₀ parents₀ queue₀ settings initial row tail₀ v₀ ranks parents queue tail v = settings - v
 
 loop-holds : tie.Need-loop-holds Inv-loop μ-loop
-loop-holds c = (omega arith, pushed-none (c .before .before .before .before .pre .0) (λ d (j, l, b, e). omega arith), refl, refl)
+loop-holds c = (omega arith, pushed-none (c .before .before .before .before .pre .0) (λ d (j, l, b). omega arith), refl, refl)
 
 give-start-requires : tie.Need-give-start-requires Inv-loop μ-loop
 give-start-requires c κs = (c .before .before .before .before .loop .inv .1 .room, omega arith, omega (arith, c .before .before .before .before .loop .inv .1 .same-length))
 
 loop-again : tie.Need-loop-again Inv-loop μ-loop
-loop-again c = (omega arith, starts-more (c .before .before .before .before .before .before .before .before .before .before .before .before .before .before .before .before .args .table .now) (c .before .before .before .before .before .before .before .before .before .before .before .before .before .before .before .before .args .settings) (c .before .before .before .before .before .before .before .before .before .before .before .before .before .before .before .before .args .initial) (c .before .before .before .before .before .before .before .before .before .before .before .loop .v) (omega arith) (c .before .before .before .before .before .before .before .before .before .before .before .loop .inv .1) (c .before .before .before .before .before .before .give-start .ensures), omega arith, omega arith)
+loop-again c = (omega arith, one-more (λ u d. (getD (c .before .before .before .before .before .before .before .before .before .before .before .before .before .before .before .before .args .table .now) (c .before .before .before .before .before .before .before .before .before .before .before .before .before .before .before .before .args .initial * c .before .before .before .before .before .before .before .before .before .before .before .before .before .before .before .before .args .settings + u) 0 ≡ c .before .before .before .before .before .before .before .before .before .before .before .before .before .before .before .before .args .initial) × (d ≡ c .before .before .before .before .before .before .before .before .before .before .before .before .before .before .before .before .args .initial * c .before .before .before .before .before .before .before .before .before .before .before .before .before .before .before .before .args .settings + u)) (c .before .before .before .before .before .before .before .before .before .before .before .loop .v) (omega arith) (c .before .before .before .before .before .before .before .before .before .before .before .loop .inv .1) (c .before .before .before .before .before .before .give-start .ensures), omega arith, omega arith)
 
 same-length : tie.Need-same-length Inv-loop μ-loop
 same-length c = c .before .loop .inv .1 .same-length

@@ -1,6 +1,6 @@
 -- `level` expands the couples of its level up to the head of the queue.
 use Rattle.marking.proofs.Levels.{spreads-none, spreads-more, spreads-head}
-use Rattle.marking.specs.Queue.{Spreads, ByRest}
+use Rattle.marking.specs.inner.Queue.{Spreads, ByRest}
 use native.Mathlib.Numerals.{add-one}
 use borrow.Author.Needs.{needs}
 use native.Mathlib.Omega.{arith}
@@ -11,20 +11,20 @@ use Rattle.marking.proofs.queue.level.Statement.{statement}
 use Rattle.marking.proofs.queue.level.Tie as tie
 
 abbrev Inv-loop : tie.InvT-loop
-Inv-loop table ranks₀ parents₀ queue₀ from to inputs rank tail₀ head₀ ranks parents queue tail head =
-    (from ≤ head) × (head ≤ to) × Spreads (ByRest table (inputs .settings) (inputs .count)) rank from to head ranks₀ parents₀ queue₀ ranks parents queue tail × (length parents ≡ length parents₀) × (length queue ≡ length queue₀)
+Inv-loop table ranks₀ parents₀ queue₀ from to sizes rank tail₀ head₀ ranks parents queue tail head =
+    (from ≤ head) × (head ≤ to) × Spreads (ByRest table (sizes .settings) (sizes .frame .inputs)) rank from to head ranks₀ parents₀ queue₀ ranks parents queue tail × (length parents ≡ length parents₀) × (length queue ≡ length queue₀)
 
 abbrev μ-loop : tie.MeasureT-loop
-μ-loop table ranks₀ parents₀ queue₀ from to inputs rank tail₀ head₀ ranks parents queue tail head = to - head
+μ-loop table ranks₀ parents₀ queue₀ from to sizes rank tail₀ head₀ ranks parents queue tail head = to - head
 
 loop-holds : tie.Need-loop-holds Inv-loop μ-loop
 loop-holds c = search (spreads-none, needs)
 
-mul-number : tie.Need-mul-number Inv-loop μ-loop
-mul-number c = omega (arith, spreads-head (c .before .loop .inv .2) (c .loop-test .taken))
+mul-long : tie.Need-mul-long Inv-loop μ-loop
+mul-long c = omega (arith, spreads-head (c .before .loop .inv .2) (c .loop-test .taken))
 
-slice-read-number : tie.Need-slice-read-number Inv-loop μ-loop
-slice-read-number c = omega (arith, spreads-head (c .before .before .loop .inv .2) (c .before .loop-test .taken))
+slice-read-long : tie.Need-slice-read-long Inv-loop μ-loop
+slice-read-long c = omega (arith, spreads-head (c .before .before .loop .inv .2) (c .before .loop-test .taken))
 
 add-take : tie.Need-add-take Inv-loop μ-loop
 add-take c = omega (arith, c .before .before .before .before .before .before .before .before .before .before .before .pre .small)
@@ -33,7 +33,7 @@ take-requires : tie.Need-take-requires Inv-loop μ-loop
 take-requires c κs = record {
   rows = rw (c .before .before .before .before .before .before .loop .inv .2 .same-length) (c .before .before .before .before .before .before .before .before .before .before .before .pre .rows);
   room = c .before .before .before .before .before .before .loop .inv .2 .room;
-  below = rw (c .before .before .before .number .ensures) (c .before .before .before .before .before .before .loop .inv .2 .room .low (c .before .before .before .before .before .before .loop .head) (omega (arith, c .before .before .before .before .before .before .loop .inv .2 .fresh .from)));
+  below = rw (c .before .before .before .long .ensures .0) (c .before .before .before .before .before .before .loop .inv .2 .room .low (c .before .before .before .before .before .before .loop .head) (omega (arith, c .before .before .before .before .before .before .loop .inv .2 .fresh .from)));
   small = omega (arith, c .before .before .before .before .before .before .before .before .before .before .before .pre .small);
 }
 
@@ -44,7 +44,7 @@ loop-again : tie.Need-loop-again Inv-loop μ-loop
 loop-again c = (
   omega arith,
   omega arith,
-  spreads-more (c .before .before .before .before .before .before .before .before .before .before .before .before .before .before .before .before .before .before .pre .small) (c .before .before .before .before .before .before .before .before .before .before .before .before .before .before .before .before .before .before .pre .next) (c .before .before .before .before .before .before .before .before .before .before .before .before .before .loop .inv .0) (c .before .before .before .before .before .before .before .before .before .before .before .before .loop-test .taken) (c .before .before .before .before .before .before .before .before .before .before .before .before .before .loop .inv .2) (rw (c .before .before .before .before .before .before .before .before .before .before .number .ensures, add-one) at (c .before .before .before .before .before .before .take .ensures)),
+  spreads-more (c .before .before .before .before .before .before .before .before .before .before .before .before .before .before .before .before .before .before .pre .small) (c .before .before .before .before .before .before .before .before .before .before .before .before .before .before .before .before .before .before .pre .next) (c .before .before .before .before .before .before .before .before .before .before .before .before .before .loop .inv .0) (c .before .before .before .before .before .before .before .before .before .before .before .before .loop-test .taken) (c .before .before .before .before .before .before .before .before .before .before .before .before .before .loop .inv .2) (rw (c .before .before .before .before .before .before .before .before .before .before .long .ensures .0, add-one) at (c .before .before .before .before .before .before .take .ensures)),
   omega arith,
   omega arith,
 )
@@ -59,8 +59,8 @@ level-spec =
     Inv-loop
     μ-loop
     loop-holds
-    mul-number
-    slice-read-number
+    mul-long
+    slice-read-long
     (λ c κs. search needs)
     add-take
     take-requires

@@ -1,8 +1,9 @@
 -- `levels` keeps the ranks up to the present one with their parents; the queue is read once, so that it ends.
 use Rattle.marking.proofs.Filling.{first-low, room-empty, fill-first, fill-leveled, fill-next, fill-long, fill-parents-long, fill-ranks, fill-parents}
 use Rattle.marking.proofs.Levels.{room-full}
-use Rattle.marking.specs.Queue.{Levels}
-use Rattle.machine.specs.Runs.{machine}
+use Rattle.marking.specs.inner.Queue.{Levels}
+use Rattle.machine.specs.Runs.{machineOf}
+use Rattle.machine.proofs.Flips.{single}
 use borrow.Author.Needs.{needs}
 use native.Mathlib.Omega.{arith}
 use mathlib.Core.Path.{_≡_, refl}
@@ -12,17 +13,17 @@ use Rattle.marking.proofs.queue.levels.Statement.{statement}
 use Rattle.marking.proofs.queue.levels.Tie as tie
 
 abbrev Inv-loop : tie.InvT-loop
-Inv-loop inputs states initial table ranks₀ parents₀ queue₀ tail₀ from₀ rank₀ ranks parents queue tail from rank =
-    Levels (machine (inputs .count) states initial table) rank from ranks parents queue tail × (length queue ≡ length queue₀)
+Inv-loop sizes table ranks₀ parents₀ queue₀ tail₀ from₀ rank₀ ranks parents queue tail from rank =
+    Levels (machineOf (sizes .frame) table) rank from ranks parents queue tail × (length queue ≡ length queue₀)
 
 abbrev μ-loop : tie.MeasureT-loop
-μ-loop inputs states initial table ranks₀ parents₀ queue₀ tail₀ from₀ rank₀ ranks parents queue tail from rank = length ranks₀ - from
+μ-loop sizes table ranks₀ parents₀ queue₀ tail₀ from₀ rank₀ ranks parents queue tail from rank = length ranks₀ - from
 
 give-starts-requires : tie.Need-give-starts-requires Inv-loop μ-loop
 give-starts-requires c κs = (room-empty (c .before .before .before .before .before .before .before .pre .0) (c .before .before .before .before .before .before .before .pre .1) (c .before .before .before .before .before .before .before .pre .2), first-low (c .before .before .before .before .before .before .before .pre .0) (c .before .before .before .before .before .before .before .pre .1) .0, first-low (c .before .before .before .before .before .before .before .pre .0) (c .before .before .before .before .before .before .before .pre .1) .1)
 
 loop-holds : tie.Need-loop-holds Inv-loop μ-loop
-loop-holds c = (fill-first (c .before .before .before .before .before .before .before .before .before .before .before .before .before .before .pre .0) (c .before .before .before .before .before .before .before .before .before .before .before .before .before .before .pre .1) (c .before .before .before .before .before .before .give-starts .ensures), refl)
+loop-holds c = (fill-first (c .before .before .before .before .before .before .before .before .before .before .before .before .before .before .pre .0) (c .before .before .before .before .before .before .before .before .before .before .before .before .before .before .pre .1) (λ v. refl) (c .before .before .before .before .before .before .give-starts .ensures), refl)
 
 level-requires : tie.Need-level-requires Inv-loop μ-loop
 level-requires c κs = fill-leveled (c .before .before .before .before .before .before .before .before .before .before .before .before .before .before .before .before .before .before .before .pre .0) (c .before .before .before .before .before .before .before .before .before .before .before .before .before .before .before .before .before .before .before .pre .1) (c .before .before .before .before .loop .inv .0) (c .before .before .before .loop-test .taken)
@@ -34,7 +35,7 @@ loop-less : tie.Need-loop-less Inv-loop μ-loop
 loop-less c = omega (arith, room-full (c .before .before .before .before .before .before .before .before .before .before .before .loop .inv .0 .room), fill-long (c .before .before .before .before .before .before .before .before .before .before .before .before .before .before .before .before .before .before .before .before .before .before .before .before .before .before .pre .0) (c .before .before .before .before .before .before .before .before .before .before .before .before .before .before .before .before .before .before .before .before .before .before .before .before .before .before .pre .1) (c .before .before .before .before .before .before .before .before .before .before .before .loop .inv .0))
 
 loop-again : tie.Need-loop-again Inv-loop μ-loop
-loop-again c = (fill-next (c .before .before .before .before .before .before .before .before .before .before .before .before .before .before .before .before .before .before .before .before .before .before .before .before .before .before .pre .0) (c .before .before .before .before .before .before .before .before .before .before .before .before .before .before .before .before .before .before .before .before .before .before .before .before .before .before .pre .1) (c .before .before .before .before .before .before .before .before .before .before .before .loop .inv .0) (c .before .before .before .before .before .before .before .before .before .before .loop-test .taken) (c .before .before .before .before .before .before .level .ensures), omega arith)
+loop-again c = (fill-next (c .before .before .before .before .before .before .before .before .before .before .before .before .before .before .before .before .before .before .before .before .before .before .before .before .before .before .pre .0) (c .before .before .before .before .before .before .before .before .before .before .before .before .before .before .before .before .before .before .before .before .before .before .before .before .before .before .pre .1) (c .before .before .before .before .before .before .before .before .before .before .before .loop .inv .0) (single (c .before .before .before .before .before .before .before .before .before .before .before .before .before .before .before .before .before .before .before .before .before .before .before .before .before .before .args .sizes .frame) (c .before .before .before .before .before .before .before .before .before .before .before .before .before .before .before .before .before .before .before .before .before .before .before .before .before .before .args .table .now)) (c .before .before .before .before .before .before .before .before .before .before .loop-test .taken) (c .before .before .before .before .before .before .level .ensures), omega arith)
 
 same-length : tie.Need-same-length Inv-loop μ-loop
 same-length c = fill-long (c .before .before .before .before .before .before .before .before .before .before .before .before .before .before .before .before .pre .0) (c .before .before .before .before .before .before .before .before .before .before .before .before .before .before .before .before .pre .1) (c .before .loop .inv .0)

@@ -1,5 +1,5 @@
 -- `push` is one offer to one couple, by the cases of its rank and parent; there is room in the queue for a couple without a rank.
-use Rattle.marking.proofs.Pushing.{room-free, push-given, push-lower, push-least, push-other}
+use Rattle.marking.proofs.Pushing.{narrowed, room-free, push-given, push-lower, push-least, push-other}
 use borrow.Author.Needs.{needs}
 use native.Mathlib.Omega.{arith}
 use Rattle.marking.proofs.queue.push.Statement.{statement}
@@ -15,7 +15,7 @@ add-result : tie.Need-add-result
 add-result c = omega (arith, room-free (c .before .before .before .before .before .before .pre .0) _ (c .before .before .before .before .before .before .pre .1) (c .before .if1 .taken))
 
 returns : tie.Need-returns
-returns c = rw (c .narrow .ensures) (push-given (c .before .before .before .before .before .before .args .couple) (c .before .before .before .before .before .before .pre .0) (c .before .before .before .before .before .before .pre .1) (c .before .before .before .before .before .before .pre .2) (c .before .if1 .taken))
+returns c = rw (narrowed (c .before .before .before .before .before .before .pre .0) (c .before .before .before .before .before .before .pre .1) (c .narrow .ensures)) (push-given (c .before .before .before .before .before .before .args .couple) (c .before .before .before .before .before .before .pre .0) (c .before .before .before .before .before .before .pre .1) (c .before .before .before .before .before .before .pre .2) (c .before .if1 .taken))
 
 returns-2 : tie.Need-returns-2
 returns-2 c = search (push-lower, needs)

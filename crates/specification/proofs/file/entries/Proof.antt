@@ -17,9 +17,6 @@ Inv-loop file start₀ k₀ start k = (k ≤ kinds) × (start ≡ startOf file k
 abbrev μ-loop : tie.MeasureT-loop
 μ-loop file start₀ k₀ start k = kinds - k
 
-returns : tie.Need-returns Inv-loop μ-loop
-returns c = it-fails λ e. omega (arith, e .each (c .before .before .before .loop .k) (search needs) .kind)
-
 returns-2 : tie.Need-returns-2 Inv-loop μ-loop
 returns-2 c = it-fails λ e. omega (arith, e .each (c .before .before .before .before .before .loop .k) (search needs) .offset)
 
@@ -45,7 +42,7 @@ entries-spec =
     (λ c. search needs)
     (λ c κs. search needs)
     (λ c. search needs)
-    returns
+    (λ c. it-fails λ e. omega (arith, e .each (c .before .before .before .loop .k) (search needs) .kind))
     (λ c κs. search needs)
     returns-2
     (λ c κs. search needs)

@@ -5,8 +5,11 @@ use Rattle.specification.proofs.Laws.{start-first}
 use Rattle.specification.proofs.file.first_body.Statement.{statement}
 use Rattle.specification.proofs.file.first_body.Tie as tie
 
-returns : tie.Need-returns
-returns c = (omega (arith, start-first (c .before .before .before .before .args .file .now)), omega arith)
-
 pub first-body-spec : {M : Type 1} → statement M
-first-body-spec = tie.close (tie.spec (λ c. search needs) (λ c κs. search needs) (λ c κs. search needs) returns)
+first-body-spec =
+    tie.close
+    (tie.spec
+    (λ c. search needs)
+    (λ c κs. search needs)
+    (λ c κs. search needs)
+    (λ c. (omega (arith, start-first (c .before .before .before .before .args .file .now)), omega arith)))

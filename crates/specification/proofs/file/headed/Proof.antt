@@ -7,15 +7,6 @@ use Rattle.specification.specs.File.{kinds}
 use Rattle.specification.proofs.file.headed.Statement.{statement}
 use Rattle.specification.proofs.file.headed.Tie as tie
 
-returns : tie.Need-returns
-returns c = it-fails λ e. omega arith
-
-returns-2 : tie.Need-returns-2
-returns-2 c = it-fails λ e. omega arith
-
-returns-3 : tie.Need-returns-3
-returns-3 c = it-fails λ e. c .before .has-mark .ensures .fails (not-true _ (c .if3 .taken)) (e .marked)
-
 returns-4 : tie.Need-returns-4
 returns-4 c =
     decides-eqb (c .wide .result) kinds
@@ -25,4 +16,12 @@ returns-4 c =
 pub headed-spec : {M : Type 1} → statement M
 headed-spec =
     tie.close
-    (tie.spec returns (λ c κs. search needs) returns-2 (λ c κs. search needs) returns-3 (λ c. search needs) (λ c κs. search needs) returns-4)
+    (tie.spec
+    (λ c. it-fails λ e. omega arith)
+    (λ c κs. search needs)
+    (λ c. it-fails λ e. omega arith)
+    (λ c κs. search needs)
+    (λ c. it-fails λ e. c .before .has-mark .ensures .fails (not-true _ (c .if3 .taken)) (e .marked))
+    (λ c. search needs)
+    (λ c κs. search needs)
+    returns-4)

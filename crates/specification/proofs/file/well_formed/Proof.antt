@@ -4,24 +4,6 @@ use Rattle.verdict.proofs.Tests.{it-holds, it-fails}
 use Rattle.specification.proofs.file.well_formed.Statement.{statement}
 use Rattle.specification.proofs.file.well_formed.Tie as tie
 
-headed-requires : tie.Need-headed-requires
-headed-requires c κs = tt
-
-returns : tie.Need-returns
-returns c = it-fails λ e. c .before .headed .ensures .fails (not-true _ (c .if1 .taken)) (e .headed)
-
-entries-requires : tie.Need-entries-requires
-entries-requires c κs = c .before .headed .ensures .holds (not-false _ (c .if1 .left)) .enough
-
-returns-2 : tie.Need-returns-2
-returns-2 c = it-fails λ e. c .before .entries .ensures .fails (not-true _ (c .if2 .taken)) (e .entries)
-
-measured-requires : tie.Need-measured-requires
-measured-requires c κs = c .before .before .before .headed .ensures .holds (not-false _ (c .before .before .if1 .left)) .enough
-
-returns-3 : tie.Need-returns-3
-returns-3 c = it-fails λ e. c .before .measured .ensures .fails (not-true _ (c .if3 .taken)) (e .measured)
-
 returns-4 : tie.Need-returns-4
 returns-4 c = it-holds (record {
   headed = c .before .before .before .before .before .headed .ensures .holds (not-false _ (c .before .before .before .before .if1 .left));
@@ -33,10 +15,10 @@ pub well-formed-spec : {M : Type 1} → statement M
 well-formed-spec =
     tie.close
     (tie.spec
-    headed-requires
-    returns
-    entries-requires
-    returns-2
-    measured-requires
-    returns-3
+    (λ c κs. tt)
+    (λ c. it-fails λ e. c .before .headed .ensures .fails (not-true _ (c .if1 .taken)) (e .headed))
+    (λ c κs. c .before .headed .ensures .holds (not-false _ (c .if1 .left)) .enough)
+    (λ c. it-fails λ e. c .before .entries .ensures .fails (not-true _ (c .if2 .taken)) (e .entries))
+    (λ c κs. c .before .before .before .headed .ensures .holds (not-false _ (c .before .before .if1 .left)) .enough)
+    (λ c. it-fails λ e. c .before .measured .ensures .fails (not-true _ (c .if3 .taken)) (e .measured))
     returns-4)

@@ -15,31 +15,16 @@ Inv-loop table₀ count p₀ table p = (p ≤ count) × Filled p (λ c x. x ≡ 
 abbrev μ-loop : tie.MeasureT-loop
 μ-loop table₀ count p₀ table p = count - p
 
-loop-holds : tie.Need-loop-holds Inv-loop μ-loop
-loop-holds c = (omega arith, filled-none _)
-
-slice-write-table : tie.Need-slice-write-table Inv-loop μ-loop
-slice-write-table c = omega (arith, c .before .loop .inv .1 .same-length)
-
-loop-again : tie.Need-loop-again Inv-loop μ-loop
-loop-again c = (omega arith, filled-more (c .before .loop .inv .1) (omega arith) refl)
-
-same-length : tie.Need-same-length Inv-loop μ-loop
-same-length c = c .before .loop .inv .1 .same-length
-
-returns : tie.Need-returns Inv-loop μ-loop
-returns c = filled-at (c .before .loop .inv .1) (omega arith)
-
 pub blank-table-spec : {M : Type 1} → statement M
 blank-table-spec =
     tie.close
     (tie.spec
     Inv-loop
     μ-loop
-    loop-holds
-    slice-write-table
+    (λ c. (omega arith, filled-none _))
+    (λ c. omega (arith, c .before .loop .inv .1 .same-length))
     (λ c. search needs)
     (λ c. search needs)
-    loop-again
-    same-length
-    returns)
+    (λ c. (omega arith, filled-more (c .before .loop .inv .1) (omega arith) refl))
+    (λ c. c .before .loop .inv .1 .same-length)
+    (λ c. filled-at (c .before .loop .inv .1) (omega arith)))

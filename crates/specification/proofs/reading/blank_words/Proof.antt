@@ -15,32 +15,17 @@ Inv-loop words₀ count p₀ words p = (p ≤ count) × Filled p (λ c x. x ≡ 
 abbrev μ-loop : tie.MeasureT-loop
 μ-loop words₀ count p₀ words p = count - p
 
-loop-holds : tie.Need-loop-holds Inv-loop μ-loop
-loop-holds c = (omega arith, filled-none _)
-
-slice-write-words : tie.Need-slice-write-words Inv-loop μ-loop
-slice-write-words c = omega (arith, c .before .loop .inv .1 .same-length)
-
-loop-again : tie.Need-loop-again Inv-loop μ-loop
-loop-again c = (omega arith, filled-more (c .before .loop .inv .1) (omega arith) refl)
-
-same-length : tie.Need-same-length Inv-loop μ-loop
-same-length c = c .before .loop .inv .1 .same-length
-
-returns : tie.Need-returns Inv-loop μ-loop
-returns c = filled-at (c .before .loop .inv .1) (omega arith)
-
 pub blank-words-spec : {M : Type 1} → statement M
 blank-words-spec =
     tie.close
     (tie.spec
     Inv-loop
     μ-loop
-    loop-holds
+    (λ c. (omega arith, filled-none _))
     (λ c. search needs)
-    slice-write-words
+    (λ c. omega (arith, c .before .loop .inv .1 .same-length))
     (λ c. search needs)
     (λ c. search needs)
-    loop-again
-    same-length
-    returns)
+    (λ c. (omega arith, filled-more (c .before .loop .inv .1) (omega arith) refl))
+    (λ c. c .before .loop .inv .1 .same-length)
+    (λ c. filled-at (c .before .loop .inv .1) (omega arith)))

@@ -15,34 +15,19 @@ Inv-loop file z words₀ count s₀ words s = (s ≤ count) × Filled s (λ k x.
 abbrev μ-loop : tie.MeasureT-loop
 μ-loop file z words₀ count s₀ words s = count - s
 
-loop-holds : tie.Need-loop-holds Inv-loop μ-loop
-loop-holds c = (omega arith, filled-none _)
-
-slice-write-words : tie.Need-slice-write-words Inv-loop μ-loop
-slice-write-words c = omega (arith, c .before .before .loop .inv .1 .same-length)
-
-loop-again : tie.Need-loop-again Inv-loop μ-loop
-loop-again c = (omega arith, filled-more (c .before .before .loop .inv .1) (omega arith) (c .word .ensures .0))
-
-same-length : tie.Need-same-length Inv-loop μ-loop
-same-length c = c .before .loop .inv .1 .same-length
-
-returns : tie.Need-returns Inv-loop μ-loop
-returns c = filled-at (c .before .loop .inv .1) (omega arith)
-
 pub fill-words-spec : {M : Type 1} → statement M
 fill-words-spec =
     tie.close
     (tie.spec
     Inv-loop
     μ-loop
-    loop-holds
+    (λ c. (omega arith, filled-none _))
+    (λ c κs. search needs)
     (λ c κs. search needs)
     (λ c. search needs)
+    (λ c. omega (arith, c .before .before .before .loop .inv .1 .same-length))
     (λ c. search needs)
-    slice-write-words
     (λ c. search needs)
-    (λ c. search needs)
-    loop-again
-    same-length
-    returns)
+    (λ c. (omega arith, filled-more (c .before .before .before .loop .inv .1) (omega arith) (omega arith)))
+    (λ c. c .before .loop .inv .1 .same-length)
+    (λ c. filled-at (c .before .loop .inv .1) (omega arith)))

@@ -1,14 +1,30 @@
--- `outcome` is a refusal or the sizes, by the number.
+-- `outcome` is a refusal or the sizes, by the number, and says where the records and the evolutions' texts begin.
 use borrow.Author.Needs.{needs}
-use mathlib.Core.Path.{refl}
+use native.Mathlib.Omega.{arith}
+use mathlib.Core.Path.{refl, ap}
+use Rattle.specification.specs.Records.{records, textLength}
+use Rattle.specification.proofs.Laws.{sum-le}
 use Rattle.specification.proofs.reading.outcome.Statement.{statement}
 use Rattle.specification.proofs.reading.outcome.Tie as tie
 
+add-text : tie.Need-add-text
+add-text c = omega (arith, sum-le (textLength (c .before .before .before .before .before .args .file .now) (c .before .before .before .before .before .args .z)) (c .before .before .before .before .before .args .z .states) (records (c .before .before .before .before .before .args .z)) (omega arith))
+
 returns : tie.Need-returns
-returns c = (λ e. absurd (c .before .if1 .taken e), λ n. c .refusal .ensures)
+returns c = record { answer = ap (λ k. k .answer) (c .refusal .ensures); refused = λ _. (c .refusal .ensures, refl); done = λ e. absurd (c .before .if1 .taken e); from = c .before .before .before .before .before .before .record-at .ensures; text = omega arith; count = refl }
 
 returns-2 : tie.Need-returns-2
-returns-2 c = (λ e. refl, λ n. absurd (n (c .if1 .left)))
+returns-2 c = record { answer = refl; refused = λ n. absurd (n (c .if1 .left)); done = λ _. (refl, refl); from = c .before .before .before .before .before .record-at .ensures; text = omega arith; count = refl }
 
 pub outcome-spec : {M : Type 1} → statement M
-outcome-spec = tie.close (tie.spec (λ c κs. search needs) returns returns-2)
+outcome-spec =
+    tie.close
+    (tie.spec
+    (λ c κs. search needs)
+    (λ c. search needs)
+    (λ c κs. search needs)
+    (λ c κs. search needs)
+    add-text
+    (λ c κs. search needs)
+    returns
+    returns-2)

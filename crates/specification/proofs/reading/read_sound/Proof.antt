@@ -1,17 +1,17 @@
 -- `read_sound` blanks both buffers after a refusal by 4 to 13, and leaves them filled otherwise.
 use borrow.Author.Needs.{needs}
-use native.Mathlib.Omega.{arith}
+use mathlib.Core.Path.{refl}
 use mathlib.Core.Logic.{inl}
 use Rattle.verdict.proofs.Order.{judged-number}
-use Rattle.verdict.proofs.Fills.{filled-map, left-blank, left-filled}
+use Rattle.verdict.proofs.Fills.{filled-at, filled-map, left-blank, left-filled}
 use Rattle.specification.proofs.reading.read_sound.Statement.{statement}
 use Rattle.specification.proofs.reading.read_sound.Tie as tie
 
 returns : tie.Need-returns
-returns c = let k = judged-number 4 13 (c .before .before .before .before .before .before .before .before .before .before .before .before .before .before .before .settle .ensures .0) (omega arith) (c .before .before .before .before .before .before .before .before .before .if1 .taken) in
+returns c = let k = judged-number 4 13 (c .before .before .before .before .before .before .before .before .before .before .before .before .before .before .before .settle .ensures .0) refl (c .before .before .before .before .before .before .before .before .before .if1 .taken) in
     record {
       judged = c .before .before .before .before .before .before .before .before .before .before .before .before .before .before .before .settle .ensures .0;
-      table = left-blank (k .0) (k .1) (c .before .before .before .before .before .before .before .before .before .before .before .before .before .before .before .settle .ensures .1 .0) (c .before .before .before .before .before .before .blank-table .ensures);
+      table = left-blank (k .0) (k .1) (c .before .before .before .before .before .before .before .before .before .before .before .before .before .before .before .settle .ensures .1 .0) (filled-at (c .before .before .before .before .before .before .blank-table .ensures) (c .before .before .before .before .before .before .before .couples .ensures));
       words = left-blank (k .0) (k .1) (c .before .before .before .before .before .before .before .before .before .before .before .before .before .before .before .settle .ensures .1 .1) (c .before .before .blank-words .ensures);
     }
 
@@ -24,7 +24,7 @@ read-sound-spec =
     tie.close
     (tie.spec
     (λ c κs. search needs)
-    (λ c. search needs)
+    (λ c κs. search needs)
     (λ c κs. search needs)
     (λ c κs. search needs)
     (λ c. search needs)

@@ -11,9 +11,6 @@ use Rattle.specification.proofs.records.beyond.Tie as tie
 returns : tie.Need-returns
 returns c = decides-map (λ h. output-beyond (omega arith) (omega arith)) (λ w. omega (arith, beyond-word (omega arith) w)) (c .overflows .ensures)
 
-returns-2 : tie.Need-returns-2
-returns-2 c = it-holds (source-beyond (record { after = omega arith; below = omega arith }) (omega arith))
-
 returns-3 : tie.Need-returns-3
 returns-3 c =
     decides-leb (c .before .before .before .before .before .before .before .before .args .z .states) (c .before .target .result)
@@ -28,6 +25,6 @@ beyond-spec =
     (λ c κs. search needs)
     returns
     (λ c κs. search needs)
-    returns-2
+    (λ c. it-holds (source-beyond (record { after = omega arith; below = omega arith }) (omega arith)))
     (λ c κs. search needs)
     returns-3)

@@ -7,17 +7,8 @@ use Rattle.specification.specs.Limits.{mostEvolutions}
 use Rattle.specification.proofs.records.in_range.Statement.{statement}
 use Rattle.specification.proofs.records.in_range.Tie as tie
 
-returns : tie.Need-returns
-returns c = it-fails λ e. c .before .between .ensures .fails (not-true _ (c .if1 .taken)) (e .some-input, e .few-inputs)
-
 returns-2 : tie.Need-returns-2
 returns-2 c = it-fails λ e. c .before .between2 .ensures .fails (not-true _ (c .if2 .taken)) (e .some-output, e .few-outputs)
-
-returns-3 : tie.Need-returns-3
-returns-3 c = it-fails λ e. c .before .between3 .ensures .fails (not-true _ (c .if3 .taken)) (e .some-state, e .few-states)
-
-returns-4 : tie.Need-returns-4
-returns-4 c = it-fails λ e. omega arith
 
 returns-5 : tie.Need-returns-5
 returns-5 c =
@@ -43,10 +34,10 @@ in-range-spec =
     tie.close
     (tie.spec
     (λ c κs. search needs)
-    returns
+    (λ c. it-fails λ e. c .before .between .ensures .fails (not-true _ (c .if1 .taken)) (e .some-input, e .few-inputs))
     (λ c κs. search needs)
     returns-2
     (λ c κs. search needs)
-    returns-3
-    returns-4
+    (λ c. it-fails λ e. c .before .between3 .ensures .fails (not-true _ (c .if3 .taken)) (e .some-state, e .few-states))
+    (λ c. it-fails λ e. omega arith)
     returns-5)

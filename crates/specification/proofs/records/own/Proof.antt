@@ -5,9 +5,6 @@ use Rattle.verdict.proofs.Tests.{it-fails, decides-eqb}
 use Rattle.specification.proofs.records.own.Statement.{statement}
 use Rattle.specification.proofs.records.own.Tie as tie
 
-returns : tie.Need-returns
-returns c = it-fails λ w. omega (arith, w .evolves .after)
-
 returns-2 : tie.Need-returns-2
 returns-2 c =
     decides-eqb (c .before .target .result) (c .source .result)
@@ -15,4 +12,4 @@ returns-2 c =
     (λ w. omega (arith, w .loops))
 
 pub own-spec : {M : Type 1} → statement M
-own-spec = tie.close (tie.spec returns (λ c κs. search needs) (λ c κs. search needs) returns-2)
+own-spec = tie.close (tie.spec (λ c. it-fails λ w. omega (arith, w .evolves .after)) (λ c κs. search needs) (λ c κs. search needs) returns-2)

@@ -13,17 +13,8 @@ use Rattle.specification.proofs.records.sized.Tie as tie
 in-ranges : (c : tie.Else1) → Ranges (c .before .before .sizes-of .result)
 in-ranges c = c .before .in-range .ensures .holds (not-false _ (c .if1 .left))
 
-sizes-of-requires : tie.Need-sizes-of-requires
-sizes-of-requires c κs = omega (arith, laid-out _ (c .before .pre), c .before .pre .headed .enough)
-
 returns : tie.Need-returns
 returns c = it-fails λ e. c .before .in-range .ensures .fails (not-true _ (c .if1 .taken)) (subst Ranges (sym (c .before .before .sizes-of .ensures)) (e .ranges))
-
-length-of-requires : tie.Need-length-of-requires
-length-of-requires c κs = omega (arith, c .before .before .before .before .pre .headed .enough)
-
-mul-if2 : tie.Need-mul-if2
-mul-if2 c = omega (arith, in-ranges (c .before .before) .few-states)
 
 returns-2 : tie.Need-returns-2
 returns-2 c = it-fails λ e. omega (arith, e .states, ap (λ z. z .states) (c .before .before .before .before .before .sizes-of .ensures))
@@ -35,9 +26,6 @@ texts-sum-requires : tie.Need-texts-sum-requires
 texts-sum-requires c κs =
     let z = c .before .before .before .before .before .before .sizes-of .ensures in
     omega (arith, laid-out _ (c .before .before .before .before .before .before .before .before .pre), c .before .before .before .before .before .before .before .before .pre .headed .few, ap (λ z. z .states) z, ap (λ z. z .evolutions) z, ap (λ z. z .first) z)
-
-length-of-requires-2 : tie.Need-length-of-requires-2
-length-of-requires-2 c κs = omega (arith, c .before .before .before .before .before .before .before .before .before .pre .headed .enough)
 
 returns-3 : tie.Need-returns-3
 returns-3 c =
@@ -51,13 +39,13 @@ pub sized-spec : {M : Type 1} → statement M
 sized-spec =
     tie.close
     (tie.spec
-    sizes-of-requires
+    (λ c κs. omega (arith, laid-out _ (c .before .pre), c .before .pre .headed .enough))
     (λ c κs. search needs)
     returns
-    length-of-requires
-    mul-if2
+    (λ c κs. omega (arith, c .before .before .before .before .pre .headed .enough))
+    (λ c. omega (arith, in-ranges (c .before .before) .few-states))
     returns-2
     add-texts-sum
     texts-sum-requires
-    length-of-requires-2
+    (λ c κs. omega (arith, c .before .before .before .before .before .before .before .before .before .pre .headed .enough))
     returns-3)

@@ -2,14 +2,14 @@
 use borrow.Author.Needs.{needs}
 use native.Mathlib.Omega.{arith}
 use mathlib.Core.Path.{_≡_, ap}
-use Prim.Native.Nat.{_*_, _-_, _≤_}
+use Prim.Native.Nat.{_*_, _-_, _^_, _≤_}
 use Rattle.specification.specs.Records.{sumTo, textLength}
 use Rattle.specification.proofs.Laws.{sum-more}
 use Rattle.specification.proofs.records.texts_sum.Statement.{statement}
 use Rattle.specification.proofs.records.texts_sum.Tie as tie
 
 abbrev Inv-loop : tie.InvT-loop
-Inv-loop file z count sum₀ r₀ sum r = (r ≤ count) × (sum ≡ sumTo (textLength file z) r) × (sum ≤ 255 * r)
+Inv-loop file z count sum₀ r₀ sum r = (r ≤ count) × (sum ≡ sumTo (textLength file z) r) × (sum ≤ 2 ^ 8 * r)
 
 abbrev μ-loop : tie.MeasureT-loop
 μ-loop file z count sum₀ r₀ sum r = count - r

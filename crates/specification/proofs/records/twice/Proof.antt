@@ -16,9 +16,6 @@ Inv-loop file z r from to q₀ q = (q₀ ≤ q) × (q ≤ r) × ((p : ℕ) → p
 abbrev μ-loop : tie.MeasureT-loop
 μ-loop file z r from to q₀ q = r - q
 
-returns : tie.Need-returns Inv-loop μ-loop
-returns c = it-fails λ w. omega (arith, w .evolves .after)
-
 returns-2 : tie.Need-returns-2 Inv-loop μ-loop
 returns-2 c =
     it-holds (record {
@@ -42,7 +39,7 @@ twice-spec =
     (tie.spec
     Inv-loop
     μ-loop
-    returns
+    (λ c. it-fails λ w. omega (arith, w .evolves .after))
     (λ c κs. search needs)
     (λ c κs. search needs)
     (λ c. search needs)

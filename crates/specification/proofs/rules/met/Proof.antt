@@ -1,12 +1,11 @@
 -- `met` reads the part of the file that a record names, where it lies within the file.
 use borrow.Author.Needs.{needs}
 use native.Mathlib.Omega.{arith}
-use mathlib.Core.Path.{_≡_, ap, subst}
-use Prim.Native.Nat.{ℕ, _+_, _-_}
+use mathlib.Core.Path.{subst}
 use lib.ListN.{take, drop}
 use Rattle.condition.specs.Condition.{Says}
 use Rattle.verdict.proofs.Tests.{it-fails, decides-map}
-use Rattle.specification.proofs.Firing.{told-decides, told-unread}
+use Rattle.specification.proofs.Firing.{part-is, told-decides, told-unread}
 use Rattle.specification.proofs.rules.met.Statement.{statement}
 use Rattle.specification.proofs.rules.met.Tie as tie
 
@@ -14,8 +13,7 @@ use Rattle.specification.proofs.rules.met.Tie as tie
 said : (c : tie.After-read) → let a = c .before .before .before .before .before .before .args in Says (a .inputs) (a .setting) (take (a .e .length) (drop (a .e .at) (a .file .now))) (c .read .result)
 said c =
     let a = c .before .before .before .before .before .before .args in
-    let k : (a .e .at + c .before .before .before .wide .result) - a .e .at ≡ a .e .length = omega arith in
-    subst (λ w. Says (a .inputs) (a .setting) w (c .read .result)) (ap (λ (k : ℕ). take k (drop (a .e .at) (a .file .now))) k) (c .read .ensures)
+    subst (λ w. Says (a .inputs) (a .setting) w (c .read .result)) (part-is (a .file .now) (c .before .before .before .before .long .ensures .0) (c .before .before .before .wide .ensures .0)) (c .read .ensures)
 
 returns : tie.Need-returns
 returns c = it-fails λ m. omega (arith, m .inside)
@@ -30,7 +28,7 @@ pub met-spec : {M : Type 1} → statement M
 met-spec =
     tie.close
     (tie.spec
-    (λ c. search needs)
+    (λ c κs. search needs)
     (λ c κs. search needs)
     (λ c. search needs)
     returns

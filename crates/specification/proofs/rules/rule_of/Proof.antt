@@ -5,11 +5,5 @@ use Rattle.specification.proofs.Firing.{rule-state, rule-evolution}
 use Rattle.specification.proofs.rules.rule_of.Statement.{statement}
 use Rattle.specification.proofs.rules.rule_of.Tie as tie
 
-returns : tie.Need-returns
-returns c = sym (rule-state _ _ _ (c .if1 .taken))
-
-returns-2 : tie.Need-returns-2
-returns-2 c = c .source .ensures .0 ∙ sym (rule-evolution _ _ _ (c .before .if1 .left))
-
 pub rule-of-spec : {M : Type 1} → statement M
-rule-of-spec = tie.close (tie.spec returns (λ c κs. search needs) returns-2)
+rule-of-spec = tie.close (tie.spec (λ c. sym (rule-state _ _ _ (c .if1 .taken))) (λ c κs. search needs) (λ c. c .source .ensures .0 ∙ sym (rule-evolution _ _ _ (c .before .if1 .left))))

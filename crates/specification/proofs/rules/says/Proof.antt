@@ -18,17 +18,10 @@ inside c = let a = c .before .args in sum-below (textLength (a .file .now) (a .z
 starts : (c : tie.After-shared-slice-known) → let a = c .before .args in getD (a .starts .now) (a .r) 0 ≡ textAt (a .file .now) (a .z) (a .r)
 starts c = let a = c .before .args in c .before .pre .0 .at (a .r) (omega arith)
 
-add-end : tie.Need-add-end
-add-end c = omega (arith, inside (c .before .before), starts (c .before .before))
-
-part-read-end : tie.Need-part-read-end
-part-read-end c = omega (arith, inside (c .before .before), starts (c .before .before))
-
 returns : tie.Need-returns
 returns c =
     let a = c .before .before .before .before .before .args in
-    let at = getD (a .starts .now) (a .r) 0 in
-    subst (λ w. Says (a .z .inputs) (a .v) w (c .read .result)) (part-is (a .file .now) (a .z) (a .r) at (at + c .before .before .text-length .result) (starts (c .before .before .before .before)) (omega arith)) (c .read .ensures)
+    subst (λ w. Says (a .z .inputs) (a .v) w (c .read .result)) (part-is (a .file .now) (starts (c .before .before .before .before)) (c .before .before .text-length .ensures .0)) (c .read .ensures)
 
 pub says-spec : {M : Type 1} → statement M
 says-spec =
@@ -37,9 +30,9 @@ says-spec =
     (λ c. search needs)
     (λ c. search needs)
     (λ c κs. search needs)
-    add-end
+    (λ c. omega (arith, inside (c .before .before), starts (c .before .before)))
     (λ c. search needs)
     (λ c. search needs)
-    part-read-end
+    (λ c. omega (arith, inside (c .before .before), starts (c .before .before)))
     (λ c κs. search needs)
     returns)

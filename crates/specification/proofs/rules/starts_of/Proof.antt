@@ -2,34 +2,34 @@
 use borrow.Author.Needs.{needs}
 use native.Mathlib.Omega.{arith}
 use mathlib.Core.Path.{_≡_}
-use Prim.Native.Nat.{ℕ, _*_, _-_, _≤_}
-use lib.ListN.{length, length-replicate}
+use Prim.Native.Nat.{ℕ, _*_, _-_, _^_, _≤_}
+use lib.ListN.{length-replicate}
 use Rattle.verdict.specs.Buffers.{Filled}
 use Rattle.verdict.proofs.Fills.{filled-none, filled-more}
-use Rattle.specification.specs.Limits.{mostRecords}
-use Rattle.specification.specs.Records.{sumTo, records, textLength}
+use Rattle.specification.specs.inner.Private.{mostRecords}
+use Rattle.specification.specs.Records.{sumTo, textLength}
 use Rattle.specification.specs.Rules.{textAt}
 use Rattle.specification.proofs.Laws.{sum-more}
 use Rattle.specification.proofs.rules.starts_of.Statement.{statement}
 use Rattle.specification.proofs.rules.starts_of.Tie as tie
 
 abbrev Inv-loop : tie.InvT-loop
-Inv-loop file z count starts₀ at₀ r₀ starts at r = (r ≤ count) × (count ≡ records z) × (at ≡ textAt file z r) × (sumTo (textLength file z) r ≤ 255 * r) × (length starts₀ ≡ mostRecords) × Filled r (λ k x. x ≡ textAt file z k) starts₀ starts
+Inv-loop file z count starts₀ at₀ r₀ starts at r = (r ≤ count) × (at ≡ textAt file z r) × (sumTo (textLength file z) r ≤ 2 ^ 8 * r) × Filled r (λ k x. x ≡ textAt file z k) starts₀ starts
 
 abbrev μ-loop : tie.MeasureT-loop
 μ-loop file z count starts₀ at₀ r₀ starts at r = count - r
 
 loop-holds : tie.Need-loop-holds Inv-loop μ-loop
 unfolding sumTo
-loop-holds c = (omega arith, omega arith, omega arith, omega arith, length-replicate {A = ℕ} mostRecords 0, filled-none _)
+loop-holds c = (omega arith, omega arith, omega arith, filled-none _)
 
 loop-again : tie.Need-loop-again Inv-loop μ-loop
 loop-again c =
     let s = sum-more (textLength (c .before .before .before .before .before .before .args .file .now) (c .before .before .before .before .before .before .args .z)) (c .before .before .loop .r) in
-    (omega arith, omega arith, omega (arith, s), omega (arith, s), c .before .before .loop .inv .4, filled-more (c .before .before .loop .inv .5) (omega arith) (c .before .before .loop .inv .2))
+    (omega arith, omega (arith, s), omega (arith, s), filled-more (c .before .before .loop .inv .3) (omega (arith, length-replicate {A = ℕ} mostRecords 0)) (c .before .before .loop .inv .1))
 
 returns : tie.Need-returns Inv-loop μ-loop
-returns c = record { laid = c .before .before .before .before .before .pre; at = λ r h. c .before .loop .inv .5 .needed r (omega arith) }
+returns c = record { laid = c .before .before .before .before .before .pre; at = λ r h. c .before .loop .inv .3 .needed r (omega arith) }
 
 pub starts-of-spec : {M : Type 1} → statement M
 starts-of-spec =

@@ -1,0 +1,59 @@
+-- Refusal 17 at one index of a list of settings: the first is a fault unless it is a start, a later one unless it is a change from the
+-- one before, and there is none beyond the end. Where refusals 2 and 3 do not apply to the table, 17 is that of the list alone.
+use mathlib.Core.Path.{_≡_}
+use mathlib.Core.Bool.{Bool, not}
+use mathlib.Core.List.{List, [], _∷_}
+use Prim.Native.Nat.{ℕ, zero, suc, _+_, _*_, _-_, _%_, _^_, _≤_, _<_}
+use native.Mathlib.Omega.{arith}
+use lib.ListN.{length, getD}
+use lib.Arith.{digits-lt}
+use Rattle.verdict.specs.Checks.{Decides, check, refused, next, Verdict, Passed, Judged}
+use Rattle.verdict.specs.declared.Answer.{Answer}
+use Rattle.verdict.proofs.Tests.{decides-map, decides-not}
+use Rattle.machine.specs.Runs.{Machine, size, move, Starts, Changes, Fault}
+use Rattle.machine.specs.Runs.Fault.{empty, no-start, no-change}
+use Rattle.tables.specs.Tables.{Tabled}
+use Rattle.tables.proofs.Gate.{couples-few}
+use Rattle.runs.specs.Faults.{faultChecks}
+
+suc-pred : (i : ℕ) → suc i - 1 ≡ i
+suc-pred i = omega arith
+
+module _ {m : Machine} {run : List ℕ} {b : Bool} where
+  pub at-start : 0 < length run → Decides (Starts m (getD run 0 0)) b → Decides (Fault m run 0) (not b)
+  at-start l d = decides-map (no-start l) clears (decides-not d)
+    where
+      clears : Fault m run 0 → Starts m (getD run 0 0) → ⊥
+      clears (empty k) s = omega arith
+      clears (no-start _ n) s = n s
+
+  pub at-change : (i : ℕ) → 1 ≤ i → i < length run → Decides (Changes m (getD run (i - 1) 0) (getD run i 0)) b → Decides (Fault m run i) (not b)
+  at-change zero h l d = absurd (omega arith)
+  at-change (suc i) h l d = decides-map (no-change l) clears (decides-not (rw suc-pred at d))
+    where
+      clears : Fault m run (suc i) → Changes m (getD run i 0) (getD run (suc i) 0) → ⊥
+      clears (no-change _ n) c = n c
+
+-- a list with settings has its faults within it
+pub fault-inside : {m : Machine} {run : List ℕ} → 0 < length run → (i : ℕ) → Fault m run i → i < length run
+fault-inside h zero f = h
+fault-inside h (suc i) (no-change l n) = l
+
+-- a couple's number by a shift: it stands in the table, and the element there is its move
+module _ {m : Machine} (t : Tabled m) {s v : ℕ} (h : s < m .states) (k : v < size m) where
+  shifted : s * size m % 2 ^ 64 ≡ s * size m
+  shifted = omega (arith, digits-lt h k, couples-few (t .sized))
+
+  pub couple-inside : s * size m % 2 ^ 64 + v < length (m .table)
+  couple-inside = omega (arith, shifted, digits-lt h k, t .long)
+
+  pub couple-move : getD (m .table) (s * size m % 2 ^ 64 + v) 0 ≡ move m s v
+  couple-move = rw shifted
+
+-- refusal 17 where 2 and 3 do not apply to the table
+pub run-judged : {m : Machine} {run : List ℕ} {a : Answer} → Tabled m → Judged (faultChecks m run) Passed a → Judged (check 17 (Fault m run) ∷ []) Passed a
+run-judged {m} {run} {a} t v = by (v .verdict)
+  where
+    by : Verdict (faultChecks m run) Passed a → Judged (check 17 (Fault m run) ∷ []) Passed a
+    by (refused l e) = record { verdict = refused (record { here = l .here .fault; first = λ p h f. l .first p h (record { fit = t; fault = f }) }) e }
+    by (next n d) = record { verdict = next (record { nowhere = λ p f. n .nowhere p (record { fit = t; fault = f }) }) d }

@@ -1,0 +1,60 @@
+-- The runs that stored bytes hold, one after the other: the first ends where `storedEnd` says, and the others stand behind it.
+-- Reading more runs than the bytes hold makes no difference.
+use mathlib.Core.Path.{_≡_, refl, sym, ap, ap₂, _∙_}
+use mathlib.Core.List.{List, [], _∷_}
+use mathlib.Core.Logic.{⊎-elim}
+use Prim.Native.Nat.{ℕ, zero, suc, _+_, _-_, _*_, _≤_, _<_, min}
+use native.Mathlib.Nat.{eq-or-lt-of-le}
+use native.Mathlib.Omega.{arith}
+use lib.ListN.{length, getD, take, drop, length-drop, drop-of-length-le}
+use lib.Seq.{drop-cons, drop-drop, take-all}
+use Rattle.machine.specs.Plans.{split, runsIn}
+use Rattle.runs.specs.Stored.{settingsAt, storedEnd}
+
+split-same : (k j : ℕ) (bs : List ℕ) → length bs ≤ k → length bs ≤ j → split k bs ≡ split j bs
+split-same zero zero bs h g = refl
+split-same zero (suc j) [] h g = refl
+split-same zero (suc j) (b ∷ bs) h g = absurd (omega arith)
+split-same (suc k) zero [] h g = refl
+split-same (suc k) zero (b ∷ bs) h g = absurd (omega arith)
+split-same (suc k) (suc j) [] h g = refl
+split-same (suc k) (suc j) (low ∷ []) h g = refl
+split-same (suc k) (suc j) (low ∷ high ∷ bs) h g =
+    let n = high * 256 + low in
+    ap (λ (l : List (List ℕ)). take n bs ∷ l) (split-same k j (drop n bs) (rw length-drop (omega arith)) (rw length-drop (omega arith)))
+
+-- no run stands in fewer than two bytes
+pub runs-none : (bs : List ℕ) → length bs < 2 → runsIn bs ≡ []
+runs-none [] h = refl
+runs-none (b ∷ []) h = refl
+runs-none (b ∷ d ∷ bs) h = absurd (omega arith)
+
+-- the first run, and those behind it
+runs-first : (low high : ℕ) (bs : List ℕ) → runsIn (low ∷ high ∷ bs) ≡ take (high * 256 + low) bs ∷ runsIn (drop (high * 256 + low) bs)
+runs-first low high bs =
+    let n = high * 256 + low in
+    ap (λ (l : List (List ℕ)). take n bs ∷ l) (split-same (suc (length bs)) (length (drop n bs)) (drop n bs) (rw length-drop (omega arith)) (omega arith))
+
+-- a list cut at n, or at its end where it is shorter
+cut : (n k : ℕ) (l : List ℕ) → k ≡ min n (length l) → (take n l ≡ take k l) × (drop n l ≡ drop k l)
+cut n k l e =
+    ⊎-elim
+    (λ (s : k ≡ n). rw s (refl, refl))
+    (λ (h : k < n).
+    let far : length l ≤ n = omega arith in
+    let near : length l ≤ k = omega arith in
+    (take-all n l far ∙ sym (take-all k l near), drop-of-length-le l far ∙ sym (drop-of-length-le l near)))
+    (eq-or-lt-of-le (omega arith))
+
+-- the run at a byte ends where its count says, at the latest with the plan
+pub next-run : (plan : List ℕ) (at : ℕ) {end : ℕ} → end ≡ storedEnd plan at → at + 2 ≤ length plan
+    → runsIn (drop at plan) ≡ take (end - (at + 2)) (drop (at + 2) plan) ∷ runsIn (drop end plan)
+next-run plan at {end} e h =
+    let parts = cut (settingsAt plan at) (end - (at + 2)) (drop (at + 2) plan) (rw length-drop (omega arith)) in
+    let one : at + 1 ≡ suc at = omega arith in
+    let two : at + 2 ≡ suc (suc at) = omega arith in
+    let all : at + 2 + (end - (at + 2)) ≡ end = omega arith in
+    let begins : drop at plan ≡ getD plan at 0 ∷ getD plan (at + 1) 0 ∷ drop (at + 2) plan = rw (one, two, drop-cons plan at 0 (omega arith), drop-cons plan (suc at) 0 (omega arith)) in
+    ap runsIn begins
+    ∙ runs-first (getD plan at 0) (getD plan (at + 1) 0) (drop (at + 2) plan)
+    ∙ ap₂ (λ (run rest : List ℕ). run ∷ runsIn rest) (parts .0) (parts .1 ∙ drop-drop (end - (at + 2)) (at + 2) plan ∙ ap (λ (k : ℕ). drop k plan) all)

@@ -1,0 +1,64 @@
+-- `first_fault` finds the first fault of a list of settings: none has been seen below i.
+use borrow.Author.Needs.{needs}
+use native.Mathlib.Omega.{arith}
+use Prim.Native.Nat.{_-_, _≤_}
+use lib.ListN.{length}
+use Rattle.verdict.proofs.Tests.{Unseen, unseen-start, unseen-more, unseen-here, unseen-end}
+use Rattle.machine.specs.Runs.{machineOf, Fault}
+use Rattle.machine.specs.Runs.Fault.{empty}
+use Rattle.tables.proofs.Gate.{settings-are}
+use Rattle.runs.proofs.Indices.{at-start, at-change, fault-inside}
+use Rattle.runs.proofs.faults.first_fault.Statement.{statement}
+use Rattle.runs.proofs.faults.first_fault.Tie as tie
+
+abbrev Inv-loop : tie.InvT-loop
+Inv-loop frame table run m i₀ i-end i = (1 ≤ i) × (i ≤ length run) × Unseen (Fault (machineOf frame table) run) i
+
+abbrev μ-loop : tie.MeasureT-loop
+μ-loop frame table run m i₀ i-end i = length run - i
+
+returns : tie.Need-returns Inv-loop μ-loop
+returns c = unseen-here unseen-start (empty (c .if1 .taken))
+
+is-start-requires : tie.Need-is-start-requires Inv-loop μ-loop
+is-start-requires c κs = (c .before .before .before .before .before .pre, settings-are (c .before .before .before .before .before .pre .sized) (c .before .settings .ensures .0 .0))
+
+returns-2 : tie.Need-returns-2 Inv-loop μ-loop
+returns-2 c = unseen-here unseen-start (at-start (omega arith) (rw (c .before .before .setting .ensures .0) at (c .before .is-start .ensures)) .holds (c .if2 .taken))
+
+loop-holds : tie.Need-loop-holds Inv-loop μ-loop
+loop-holds c = (omega arith, omega arith, unseen-more unseen-start (at-start (omega arith) (rw (c .before .before .setting .ensures .0) at (c .before .is-start .ensures)) .fails (c .if2 .left)))
+
+may-change-requires : tie.Need-may-change-requires Inv-loop μ-loop
+may-change-requires c κs = (c .before .before .before .before .before .before .before .before .before .before .before .pre .sized .few-inputs, settings-are (c .before .before .before .before .before .before .before .before .before .before .before .pre .sized) (c .before .before .before .before .before .before .before .settings .ensures .0 .0))
+
+returns-3 : tie.Need-returns-3 Inv-loop μ-loop
+returns-3 c = unseen-here (c .before .before .before .before .before .loop .inv .2) (at-change (c .before .before .before .before .before .loop .i) (c .before .before .before .before .before .loop .inv .0) (c .before .before .before .before .loop-test .taken) (rw (c .before .before .before .setting2 .ensures .0, c .before .before .setting3 .ensures .0) at (c .before .may-change .ensures (c .before .before .before .before .before .before .before .before .before .before .before .before .before .args .table .now))) .holds (c .if3 .taken))
+
+loop-again : tie.Need-loop-again Inv-loop μ-loop
+loop-again c = (omega arith, omega arith, unseen-more (c .before .before .before .before .before .loop .inv .2) (at-change (c .before .before .before .before .before .loop .i) (c .before .before .before .before .before .loop .inv .0) (c .before .before .before .before .loop-test .taken) (rw (c .before .before .before .setting2 .ensures .0, c .before .before .setting3 .ensures .0) at (c .before .may-change .ensures (c .before .before .before .before .before .before .before .before .before .before .before .before .before .args .table .now))) .fails (c .if3 .left)))
+
+returns-4 : tie.Need-returns-4 Inv-loop μ-loop
+returns-4 c = unseen-end (c .before .loop .inv .2) (λ k f. let l = fault-inside (omega arith) k f in omega arith)
+
+pub first-fault-spec : {M : Type 1} → statement M
+first-fault-spec =
+    tie.close
+    (tie.spec
+    Inv-loop
+    μ-loop
+    returns
+    (λ c κs. search needs)
+    (λ c κs. search needs)
+    is-start-requires
+    returns-2
+    loop-holds
+    (λ c. search needs)
+    (λ c κs. search needs)
+    (λ c κs. search needs)
+    may-change-requires
+    returns-3
+    (λ c. search needs)
+    (λ c. search needs)
+    loop-again
+    returns-4)

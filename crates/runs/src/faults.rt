@@ -1,0 +1,96 @@
+// Whether a list of settings is a run of a table, and where its first fault is: refusal 17.
+ghost use mathlib.Core.Path.{_≡_};
+ghost use mathlib.Core.List.{List};
+ghost use Prim.Native.Nat.{ℕ, _≤_, _^_};
+ghost use Rattle.verdict.specs.Checks.{Decides, Finds, Passed, Judged};
+ghost use Rattle.machine.specs.Limits.{mostInputs};
+ghost use Rattle.machine.specs.Couples.{differing};
+ghost use Rattle.machine.specs.Runs.{machineOf, Starts, Changes, Fault};
+ghost use Rattle.tables.specs.Tables.{Tabled};
+ghost use Rattle.runs.specs.Faults.{faultChecks};
+use crate::stored::setting;
+use basics::wide;
+use machine::Frame;
+use tables::settings;
+use tables::tabled;
+use verdict::Answer;
+use verdict::Found;
+
+// Refusal 17 of a list of settings, handed in with a table to which refusals 2 and 3 do not apply; with any other there is none.
+pub fn check_run(frame: Frame, table: &[u8], run: &[u8]) -> Answer
+    ensures { λ r. ⌜ Judged (faultChecks (machineOf frame (now (table .entry))) (now (run .entry))) Passed r ⌝ }
+{
+    if !tabled(frame, table) {
+        return Answer {
+            number: 0,
+            place: 0,
+        };
+    }
+    if let Found::At(i) = first_fault(frame, table, run) {
+        return Answer {
+            number: 17,
+            place: i,
+        };
+    }
+    Answer {
+        number: 0,
+        place: 0,
+    }
+}
+
+// The first index at which a list of settings is no run, 0 if it is empty.
+fn first_fault(frame: Frame, table: &[u8], run: &[u8]) -> Found
+    requires { ⌜ Tabled (machineOf frame (now table)) ⌝ }
+    ensures { λ r. ⌜ Finds (Fault (machineOf frame (now (table .entry))) (now (run .entry))) r ⌝ }
+{
+    if run.len() == 0 {
+        return Found::At(0);
+    }
+    let m = settings(frame.inputs);
+    if !is_start(frame, table, m, setting(run, 0)) {
+        return Found::At(0);
+    }
+    for i in 1..run.len() {
+        if !may_change(frame, m, setting(run, i - 1), setting(run, i)) {
+            return Found::At(i);
+        }
+    }
+    Found::Nothing
+}
+
+// Whether a run may start at v: it is one of the m settings, and the initial state rests there.
+fn is_start(frame: Frame, table: &[u8], m: usize, v: usize) -> bool
+    requires { ⌜ Tabled (machineOf frame (now table)) × (m ≡ 2 ^ frame .inputs) ⌝ }
+    ensures { λ r. ⌜ Decides (Starts (machineOf frame (now (table .entry))) v) r ⌝ }
+{
+    if m <= v {
+        return false;
+    }
+    let initial = frame.initial;
+    wide(table[(initial << frame.inputs) + v]) == initial
+}
+
+// Whether a run may change from v to w: it is one of the m settings, and exactly one input differs.
+fn may_change(frame: Frame, m: usize, v: usize, w: usize) -> bool
+    requires { ⌜ (frame .inputs ≤ mostInputs) × (m ≡ 2 ^ frame .inputs) ⌝ }
+    ensures { λ r. ⌜ ((table : List ℕ) → Decides (Changes (machineOf frame table) v w) r) ⌝ }
+{
+    if m <= w {
+        return false;
+    }
+    one_input(frame.inputs, v, w)
+}
+
+// Whether two settings differ in exactly one input.
+fn one_input(inputs: usize, v: usize, w: usize) -> bool
+    requires { ⌜ inputs ≤ mostInputs ⌝ }
+    ensures { λ r. ⌜ Decides (differing inputs v w ≡ 1) r ⌝ }
+{
+    let mut count: usize = 0;
+    for i in 0..inputs {
+        if (v >> i) % 2 != (w >> i) % 2 {
+            count += 1;
+        }
+    }
+    count == 1
+}

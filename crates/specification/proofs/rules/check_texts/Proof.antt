@@ -1,0 +1,39 @@
+-- `check_texts` halts at the least record whose condition does not read: each below r reads.
+use borrow.Author.Needs.{needs}
+use native.Mathlib.Omega.{arith}
+use Prim.Native.Nat.{_-_, _≤_}
+use Rattle.verdict.proofs.Order.{pass, halt, ends}
+use Rattle.verdict.proofs.Tests.{Unseen, unseen-start, unseen-more}
+use Rattle.specification.specs.Rules.{Unreads}
+use Rattle.specification.proofs.Firing.{told-reads, told-unread}
+use Rattle.specification.proofs.rules.check_texts.Statement.{statement}
+use Rattle.specification.proofs.rules.check_texts.Tie as tie
+
+abbrev Inv-loop : tie.InvT-loop
+Inv-loop file z starts count r₀ r = (r ≤ count) × Unseen (Unreads file z) r
+
+abbrev μ-loop : tie.MeasureT-loop
+μ-loop file z starts count r₀ r = count - r
+
+returns : tie.Need-returns Inv-loop μ-loop
+returns c = halt (record { here = record { below = omega arith; unread = told-unread (c .before .before .says .ensures) (c .enum-told2 .given .1) }; first = c .before .before .before .before .loop .inv .1 .none })
+
+loop-again : tie.Need-loop-again Inv-loop μ-loop
+loop-again c = (search needs, unseen-more (c .before .before .before .before .loop .inv .1) (λ u. u .unread (told-reads (c .before .before .says .ensures) (c .enum-told .given .1))))
+
+pub check-texts-spec : {M : Type 1} → statement M
+check-texts-spec =
+    tie.close
+    (tie.spec
+    Inv-loop
+    μ-loop
+    (λ c. search needs)
+    (λ c. (search needs, unseen-start))
+    (λ c κs. search needs)
+    (λ c. search needs)
+    (λ c. search needs)
+    returns
+    (λ c. search needs)
+    (λ c. search needs)
+    loop-again
+    (λ c. pass (record { nowhere = λ k u. c .before .loop .inv .1 .none k (omega (arith, u .below)) u }) ends))

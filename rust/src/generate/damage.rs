@@ -1,0 +1,242 @@
+//! Damaged files: faults of the description, of the bytes, and files at and beyond the limits.
+
+use super::files::{largest_file, random_file, settled_file};
+use super::texts::{nested, random_condition, TEXT};
+use super::Random;
+use crate::file::{File, Leaving, State};
+use crate::plain::{FILE, INPUTS, OUTPUTS, STATES};
+
+/// Bytes of a file before its first body.
+const CONTENTS: usize = 25;
+
+/// Faults of the description, each of a kind that some check is there for.
+fn spoil(random: &mut Random, file: &mut File) {
+    let states = file.states.len();
+    let state = random.below(states);
+    let record = random.below(states + file.evolutions.len());
+    match random.below(14) {
+        0 => file.states[state].word ^= 1 << random.below(OUTPUTS),
+        1 => file.states[state].word = file.states[random.below(states)].word,
+        2 => spoil_text(random, file, record),
+        3 => wrap_text(random, file, record),
+        4 => replace_text(random, file, record),
+        5 => file.initial = random.below(states + 1) as u8,
+        6 => file.outputs = random.below(OUTPUTS + 2) as u8,
+        7 => file.inputs = random.below(INPUTS + 2) as u8,
+        8 => drop_state_or_evolution(random, file),
+        9 => add_lonely_state(file),
+        10 => no_start(file),
+        _ => spoil_evolution(random, file),
+    }
+}
+
+fn text_of(file: &mut File, record: usize) -> &mut String {
+    file.conditions_mut().nth(record).expect("the record is one of the file's")
+}
+
+/// Changes, inserts or takes out one character.
+fn spoil_text(random: &mut Random, file: &mut File, record: usize) {
+    let text = text_of(file, record);
+    let sign = char::from(*random.pick(b"abcdefghi01!().+ A\n,"));
+    let at = random.below(text.len() + 1);
+    match random.below(3) {
+        0 if at < text.len() => text.replace_range(at..at + 1, &sign.to_string()),
+        1 if at < text.len() => text.replace_range(at..at + 1, ""),
+        _ if text.len() < TEXT => text.insert(at, sign),
+        _ => text.clear(),
+    }
+}
+
+/// Puts the text into up to ten parentheses, or cuts it off.
+fn wrap_text(random: &mut Random, file: &mut File, record: usize) {
+    let text = text_of(file, record);
+    let parentheses = random.between(0, 10);
+    if random.once_in(5) {
+        text.truncate(random.below(text.len() + 1));
+    } else if text.len() + 2 * parentheses <= TEXT {
+        *text = nested(text, parentheses);
+    }
+}
+
+fn replace_text(random: &mut Random, file: &mut File, record: usize) {
+    let inputs = usize::from(file.inputs).max(1);
+    *text_of(file, record) = match random.below(5) {
+        0 => "0".to_string(),
+        1 => "1".to_string(),
+        2 => "!".repeat(random.below(20)) + "a",
+        _ => random_condition(random, inputs),
+    };
+}
+
+fn drop_state_or_evolution(random: &mut Random, file: &mut File) {
+    if !file.evolutions.is_empty() && !random.once_in(6) {
+        file.evolutions.remove(random.below(file.evolutions.len()));
+    } else {
+        file.states.remove(random.below(file.states.len()));
+    }
+}
+
+/// Adds a state that rests everywhere and that nothing moves to.
+fn add_lonely_state(file: &mut File) {
+    let word = (0..=u16::MAX).find(|word| !file.states.iter().any(|state| state.word == *word));
+    file.states.push(State { word: word.unwrap_or(0), rest: "1".to_string() });
+}
+
+/// Adds an initial state that moves to the old one and rests nowhere; nothing moves to it.
+fn no_start(file: &mut File) {
+    let old = file.initial;
+    let Some(rest) = file.states.get(usize::from(old)).map(|state| state.rest.clone()) else {
+        return;
+    };
+    let first = file.states.len() as u8;
+    add_lonely_state(file);
+    file.states[usize::from(first)].rest = "0".to_string();
+    file.initial = first;
+    file.evolutions.push(Leaving { source: first, target: old, condition: rest });
+    let as_old: Vec<Leaving> =
+        file.evolutions.iter().filter(|it| it.source == old).cloned().collect();
+    file.evolutions.extend(as_old.into_iter().map(|it| Leaving { source: first, ..it }));
+}
+
+fn spoil_evolution(random: &mut Random, file: &mut File) {
+    if file.evolutions.is_empty() {
+        return;
+    }
+    let index = random.below(file.evolutions.len());
+    let other = file.evolutions[random.below(file.evolutions.len())].clone();
+    let states = file.states.len();
+    let it = &mut file.evolutions[index];
+    match random.below(6) {
+        0 => it.source = random.below(states + 1) as u8,
+        1 => it.target = random.below(states + 1) as u8,
+        2 => it.target = it.source,
+        3 => (it.source, it.target) = (other.source, other.target),
+        4 => it.condition = other.condition,
+        _ => file.evolutions.push(other),
+    }
+}
+
+/// Faults of the bytes: contents, sizes, lengths, the end.
+fn spoil_bytes(random: &mut Random, bytes: &mut Vec<u8>) {
+    if bytes.is_empty() {
+        return;
+    }
+    let length = bytes.len();
+    match random.below(12) {
+        0 | 1 => bytes[random.below(length.min(CONTENTS))] ^= 1 << random.below(8),
+        2 => bytes[random.below(length.min(CONTENTS))] = random.bits() as u8,
+        3 => bytes.truncate(random.below(length)),
+        4 => bytes.extend((0..random.between(1, 4)).map(|_| b'a')),
+        5 => shift_entry(random, bytes),
+        6 => swap_lengths(random, bytes),
+        7 if length > CONTENTS + 3 => bytes[CONTENTS + random.below(4)] = random.below(40) as u8,
+        8 if random.once_in(2) => wrap_contents(bytes),
+        8 => bytes.truncate(length - 1),
+        9 => bytes.truncate(CONTENTS),
+        _ => bytes[random.below(length)] ^= 1 << random.below(8),
+    }
+}
+
+/// Makes one offset or length of the contents larger or smaller by little, or by the same in two.
+fn shift_entry(random: &mut Random, bytes: &mut [u8]) {
+    if bytes.len() < CONTENTS {
+        return;
+    }
+    let entry = 5 + 5 * random.below(4);
+    let step = random.pick(&[1u8, 3, 255, 253]);
+    let length = entry + 3;
+    bytes[length] = bytes[length].wrapping_add(*step);
+    if random.once_in(2) && entry < 20 {
+        bytes[entry + 6] = bytes[entry + 6].wrapping_add(*step);
+        if random.once_in(2) {
+            bytes[entry + 8] = bytes[entry + 8].wrapping_sub(*step);
+        }
+    }
+}
+
+/// Gives kind 2 so many bytes that the offsets after it only fit modulo 65,536.
+fn wrap_contents(bytes: &mut [u8]) {
+    if bytes.len() < 29 {
+        return;
+    }
+    let number = |bytes: &mut [u8], at: usize, value: usize| {
+        bytes[at..at + 2].copy_from_slice(&(value as u16).to_le_bytes());
+    };
+    let length = 65_535;
+    number(bytes, 13, length);
+    number(bytes, 16, 29 + length);
+    number(bytes, 18, 0);
+    number(bytes, 21, 29 + length);
+    number(bytes, 23, bytes.len() - 28);
+}
+
+/// Moves a byte of text from one record to the next, so that the sum stays.
+fn swap_lengths(random: &mut Random, bytes: &mut [u8]) {
+    if bytes.len() < 35 {
+        return;
+    }
+    let at = 31 + 3 * random.below((bytes.len() - 32) / 3);
+    if at + 3 < bytes.len() {
+        bytes[at] = bytes[at].wrapping_add(1);
+        bytes[at + 3] = bytes[at + 3].wrapping_sub(1);
+    }
+}
+
+/// A file with up to two faults, or of an extreme size.
+pub fn damaged(random: &mut Random) -> Vec<u8> {
+    if random.once_in(150) {
+        return extreme(random);
+    }
+    let mut file = if random.once_in(5) { random_file(random) } else { settled_file(random) };
+    let mut of_bytes = false;
+    for _ in 0..random.between(1, 2) {
+        if random.once_in(3) || file.states.is_empty() {
+            of_bytes = true;
+        } else {
+            spoil(random, &mut file);
+        }
+    }
+    let mut bytes = file.bytes();
+    if of_bytes {
+        spoil_bytes(random, &mut bytes);
+    }
+    bytes
+}
+
+/// Files at and beyond the limits: sizes, evolutions, texts.
+fn extreme(random: &mut Random) -> Vec<u8> {
+    match random.below(8) {
+        0 => largest_file(FILE).bytes(),
+        1 => largest_file(FILE + random.between(1, 2)).bytes(),
+        2 => vec![b'S'; random.between(24, 26)],
+        3 => too_many_evolutions(random),
+        4 => too_many_states(),
+        5 => {
+            let mut bytes = largest_file(random.between(61_000, FILE)).bytes();
+            spoil_bytes(random, &mut bytes);
+            bytes
+        }
+        6 => {
+            let mut file = largest_file(random.between(61_000, FILE));
+            spoil(random, &mut file);
+            file.bytes()
+        }
+        _ => [b"SEQ1\x04".to_vec(), vec![0; random.between(65_000, 70_000)]].concat(),
+    }
+}
+
+/// 992 evolutions and one or two more.
+fn too_many_evolutions(random: &mut Random) -> Vec<u8> {
+    let mut file = largest_file(61_000);
+    for _ in 0..random.between(1, 2) {
+        file.evolutions.push(Leaving { source: 0, target: 1, condition: "0".to_string() });
+    }
+    file.bytes()
+}
+
+/// 33 states, without a fault otherwise.
+fn too_many_states() -> Vec<u8> {
+    let state = |word| State { word, rest: "1".to_string() };
+    let states = (0..=STATES as u16).map(state).collect();
+    File { inputs: 1, outputs: 16, initial: 0, states, evolutions: Vec::new() }.bytes()
+}

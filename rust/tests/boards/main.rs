@@ -1,0 +1,207 @@
+//! Demand 3: marks and ranks are those of all runs, the plan visits the marked couples and no other,
+//! and a board passes all readings of the plan exactly if its moves are right at every marked couple.
+//! Runs, visits and boards are followed here step by step, apart from both implementations.
+
+#[path = "../cases/mod.rs"]
+mod cases;
+mod library;
+mod steps;
+
+use cases::try_cases;
+use library::Tested;
+use mundrefol::generate::{any_table, longest_table, Random, Table};
+use mundrefol::plain::UNMARKED;
+use mundrefol::Frame;
+use std::collections::BTreeSet;
+use steps::{has_start, is_run, is_sound, ranks_by_rounds, starts, visits};
+
+/// Every list of `length` numbers below `limit`.
+fn all_lists(limit: usize, length: usize) -> impl Iterator<Item = Vec<u8>> {
+    (0..limit.pow(length as u32)).map(move |mut code| {
+        let digit = |_| {
+            let digit = code % limit;
+            code /= limit;
+            digit as u8
+        };
+        (0..length).map(digit).collect()
+    })
+}
+
+/// Every sound table with a start of these sizes, from every initial state.
+fn all_tables(inputs: usize, states: usize) -> Vec<Table> {
+    let tables = all_lists(states, states << inputs).flat_map(|moves| {
+        let table =
+            move |initial| Table { frame: Frame { inputs, states, initial }, moves: moves.clone() };
+        (0..states).map(table)
+    });
+    tables.filter(|table| is_sound(table) && has_start(table)).collect()
+}
+
+/// Tries every board on the given tables of these sizes.
+fn try_all_boards(tables: impl IntoIterator<Item = Table>) {
+    let (mut tried, mut passed) = (0, 0);
+    for table in tables {
+        let tested = Tested::new(table);
+        for moves in all_lists(tested.table.frame.states, tested.table.moves.len()) {
+            tried += 1;
+            passed += usize::from(tested.try_board(&tested.board(moves)));
+        }
+    }
+    println!("boards: {tried} tried, {passed} passed");
+    assert!(0 < passed && passed < tried);
+}
+
+#[test]
+fn all_boards_of_one_input_two_states() {
+    try_all_boards(all_tables(1, 2));
+}
+
+#[test]
+fn all_boards_of_two_inputs_two_states() {
+    try_all_boards(all_tables(2, 2));
+}
+
+#[test]
+fn all_boards_of_one_input_three_states() {
+    try_all_boards(all_tables(1, 3));
+}
+
+/// Every `step`th table of these sizes.
+fn some_tables(inputs: usize, states: usize, step: usize) -> impl Iterator<Item = Table> {
+    all_tables(inputs, states).into_iter().skip(step / 2).step_by(step)
+}
+
+#[test]
+fn all_boards_of_three_inputs_two_states() {
+    try_all_boards(some_tables(3, 2, 601));
+}
+
+#[test]
+fn all_boards_of_one_input_four_states() {
+    try_all_boards(some_tables(1, 4, 241));
+}
+
+#[test]
+fn all_boards_of_two_inputs_three_states() {
+    try_all_boards(some_tables(2, 3, 9001));
+}
+
+/// A board that differs from the table at up to three couples, or everywhere.
+fn random_board(random: &mut Random, tested: &Tested) -> Table {
+    let states = tested.table.frame.states;
+    let mut moves = tested.table.moves.clone();
+    if random.once_in(20) {
+        moves.iter_mut().for_each(|to| *to = random.below(states) as u8);
+    }
+    for _ in 0..random.below(4) {
+        let couple = random.below(moves.len());
+        moves[couple] = random.below(states) as u8;
+    }
+    let couples = moves.len();
+    let unmarked = (0..couples).filter(|couple| tested.marked.binary_search(couple).is_err());
+    let change_unmarked = random.once_in(2);
+    for couple in unmarked.filter(|_| change_unmarked) {
+        moves[couple] = random.below(states) as u8;
+    }
+    tested.board(moves)
+}
+
+/// A sound table with a start.
+fn sound_table(random: &mut Random) -> Table {
+    loop {
+        let table = any_table(random);
+        if is_sound(&table) && has_start(&table) {
+            return table;
+        }
+    }
+}
+
+#[test]
+fn random_boards() {
+    try_cases("boards", 600, &[0, 1], |random| {
+        let tested = Tested::new(sound_table(random));
+        for _ in 0..30 {
+            tested.try_board(&random_board(random, &tested));
+        }
+        usize::from(tested.try_board(&random_board(random, &tested)))
+    });
+}
+
+#[test]
+fn ranks_are_the_fewest_changes() {
+    try_cases("ranks", 1_500, &[0], |random| {
+        let table = sound_table(random);
+        assert_eq!(library::ranks(&table), ranks_by_rounds(&table));
+        0
+    });
+}
+
+#[test]
+fn ranks_of_the_longest_runs() {
+    let table = longest_table();
+    assert!(is_sound(&table) && has_start(&table));
+    assert_eq!(library::ranks(&table), ranks_by_rounds(&table));
+}
+
+#[test]
+fn the_plan_visits_exactly_the_marked_couples() {
+    try_cases("visits", 1_000, &[0], |random| {
+        let table = sound_table(random);
+        let ranks = ranks_by_rounds(&table);
+        let mut visited = BTreeSet::new();
+        let mut next = 0;
+        for run in library::plan(&table) {
+            assert!(is_run(&table, &run));
+            let couple = (next..table.moves.len())
+                .find(|couple| ranks[*couple] != UNMARKED && !visited.contains(couple))
+                .expect("each run is for a marked couple not yet visited");
+            assert_eq!(run.len(), usize::from(ranks[couple]) + 1);
+            if table.moves.len() <= 128 || random.once_in(100) {
+                assert_eq!(run, library::run(&table, couple));
+            }
+            visited.extend(visits(&table, &run).0);
+            next = couple + 1;
+        }
+        let marked = (0..table.moves.len()).filter(|&couple| ranks[couple] != UNMARKED);
+        assert_eq!(visited, marked.collect());
+        0
+    });
+}
+
+/// Every run of so many changes.
+fn all_runs(table: &Table, changes: usize) -> Vec<Vec<usize>> {
+    let mut runs: Vec<Vec<usize>> = starts(table).into_iter().map(|start| vec![start]).collect();
+    for _ in 0..changes {
+        let longer = |run: &Vec<usize>| {
+            let last = run[run.len() - 1];
+            let next = (0..table.frame.inputs).map(move |input| last ^ 1 << input);
+            let run = run.clone();
+            next.map(move |setting| [run.as_slice(), &[setting]].concat()).collect::<Vec<_>>()
+        };
+        runs = runs.iter().flat_map(longer).collect();
+    }
+    runs
+}
+
+/// Among all runs with as many changes as the rank, the one whose resting couples before each change
+/// are the smallest, from the last change back.
+#[test]
+fn the_run_to_a_couple_is_the_least_of_all_runs() {
+    try_cases("least run", 400, &[0], |random| {
+        let mut table = sound_table(random);
+        while table.frame.inputs > 3 || table.frame.states > 5 {
+            table = sound_table(random);
+        }
+        let ranks = ranks_by_rounds(&table);
+        for couple in (0..table.moves.len()).filter(|&couple| ranks[couple] <= 5) {
+            let runs = all_runs(&table, usize::from(ranks[couple])).into_iter();
+            let least = runs
+                .map(|run| (visits(&table, &run), run))
+                .filter(|((visited, _), _)| visited.contains(&couple))
+                .min_by_key(|((_, resting), _)| resting.iter().rev().copied().collect::<Vec<_>>());
+            let (_, run) = least.expect("a marked couple has a run");
+            assert_eq!(library::run(&table, couple), run);
+        }
+        0
+    });
+}

@@ -1,0 +1,109 @@
+//! What the jobs are lent: lengths around the needed ones, junk, tables, runs.
+
+use mundrefol::generate::{any_table, Random, Table};
+use mundrefol::plain::{COUPLES, INPUTS, STATES};
+use mundrefol::Evolution;
+
+/// A buffer's length around the needed one: mostly enough, sometimes short by one or more.
+pub fn length(random: &mut Random, needed: usize) -> usize {
+    match random.below(24) {
+        0 => random.below(needed + 1),
+        1 => needed.saturating_sub(1),
+        2..=11 => needed,
+        _ => needed + random.between(1, 40),
+    }
+}
+
+/// Bytes that no job would write there by chance.
+pub fn junk_bytes(random: &mut Random, length: usize) -> Vec<u8> {
+    (0..length).map(|_| random.bits() as u8).collect()
+}
+
+/// Words that no job would write there by chance.
+pub fn junk_words(random: &mut Random, length: usize) -> Vec<u16> {
+    (0..length).map(|_| random.bits() as u16).collect()
+}
+
+/// Records that no job would write there by chance.
+pub fn junk_records(random: &mut Random, length: usize) -> Vec<Evolution> {
+    let record = |_| Evolution {
+        source: random.bits() as u8,
+        target: random.bits() as u8,
+        at: random.bits() as u16,
+        length: random.bits() as u8,
+    };
+    (0..length).map(record).collect()
+}
+
+/// A table as it is lent: the frame now and then out of range, the bytes longer or shorter.
+pub fn lent_table(random: &mut Random) -> Table {
+    let mut table = any_table(random);
+    let length = length(random, table.moves.len());
+    let beyond = junk_bytes(random, length);
+    let kept = length.min(table.moves.len());
+    table.moves.truncate(kept);
+    table.moves.extend_from_slice(&beyond[kept..]);
+    let odd = *random.pick(&[0, INPUTS + 1, STATES + 1, 64, usize::MAX, 1 << 32, 1 << 63]);
+    match random.below(60) {
+        0 => table.frame.inputs = odd,
+        1 => table.frame.states = odd,
+        2 => table.frame.initial = table.frame.states,
+        3 => table.frame.initial = usize::MAX,
+        _ => {}
+    }
+    table
+}
+
+/// Couples of a lent table, or the most there are where its frame is out of range.
+pub fn couples(table: &Table) -> usize {
+    let in_range = table.frame.inputs <= INPUTS && table.frame.states <= STATES;
+    if in_range {
+        table.frame.couples()
+    } else {
+        COUPLES
+    }
+}
+
+/// Junk for the ranks of a lent table.
+pub fn lent_ranks(random: &mut Random, table: &Table) -> Vec<u16> {
+    let length = length(random, couples(table));
+    junk_words(random, length)
+}
+
+/// Settings that mostly are a run of the table, sometimes with a fault, rarely very many.
+pub fn lent_run(random: &mut Random, table: &Table) -> Vec<u8> {
+    let initial = table.frame.initial;
+    let inputs = table.frame.inputs.clamp(1, INPUTS);
+    let settings = 1 << inputs;
+    let rests = |&setting: &usize| {
+        let couple = initial.wrapping_mul(settings).wrapping_add(setting);
+        table.moves.get(couple).is_some_and(|&state| usize::from(state) == initial)
+    };
+    let starts: Vec<usize> = (0..settings).filter(rests).collect();
+    let mut setting = if starts.is_empty() { 0 } else { *random.pick(&starts) };
+    let count = match random.below(400) {
+        0 => random.between(65_534, 65_537),
+        1..=20 => 0,
+        _ => random.between(1, 60),
+    };
+    let mut run = Vec::with_capacity(count);
+    for _ in 0..count {
+        run.push(setting as u8);
+        setting ^= 1 << random.below(inputs);
+    }
+    if count > 0 && random.once_in(4) {
+        spoil_run(random, &mut run, settings);
+    }
+    run
+}
+
+/// Changes one setting of a run, one of the first.
+fn spoil_run(random: &mut Random, run: &mut [u8], settings: usize) {
+    let at = random.below(run.len().min(80));
+    match random.below(4) {
+        0 => run[at] = random.bits() as u8,
+        1 => run[at] ^= settings as u8,
+        2 => run[at] = run[at.saturating_sub(1)],
+        _ => run[0] = random.below(settings) as u8,
+    }
+}

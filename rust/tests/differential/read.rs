@@ -1,0 +1,93 @@
+//! Reading a file.
+
+use super::assert_same;
+use super::cases::{self, try_cases};
+use super::lent::{junk_bytes, junk_records, junk_words, length};
+use mundrefol::file::File;
+use mundrefol::generate::{damaged, largest_file};
+use mundrefol::generate::{random_bytes, random_file, settled_file, Random};
+use mundrefol::plain;
+use mundrefol::plain::{COUPLES, EVOLUTIONS, FILE, INPUTS, STATES};
+
+const READ: usize = 16_000;
+
+#[test]
+fn read() {
+    try_cases("read", READ, &Vec::from_iter(0..=13), |random| {
+        let file = match random.below(12) {
+            0 => random_bytes(random),
+            1 => random_file(random).bytes(),
+            2..=5 => settled_file(random).bytes(),
+            _ => damaged(random),
+        };
+        read_both(random, &file)
+    });
+}
+
+/// Files at and just beyond the limits, with the number that each must answer.
+#[test]
+fn read_at_the_limits() {
+    let largest = |bytes: usize| {
+        let file = largest_file(bytes).bytes();
+        assert_eq!(file.len(), bytes);
+        file
+    };
+    let one_state = File::new(INPUTS as u8, 16, &[(65_535, "1")], &[]);
+    let many_states = |states: usize| {
+        let words: Vec<u16> = (0..states as u16).collect();
+        let states: Vec<(u16, &str)> = words.iter().map(|&word| (word, "1")).collect();
+        File::new(1, 16, &states, &[]).bytes()
+    };
+    let mut one_too_many = largest_file(FILE - 100);
+    one_too_many.evolutions.push(one_too_many.evolutions[0].clone());
+    let files = [
+        (b"SEQ1\x04".to_vec(), 1),
+        (largest(FILE)[..24].to_vec(), 1),
+        (b"SEQ1\x04\x01\x19\0\0\0\x02\x19\0\0\0\x03\x19\0\0\0\x04\x19\0\0\0".to_vec(), 1),
+        (one_state.bytes(), 0),
+        (File { initial: 1, ..one_state }.bytes(), 2),
+        (many_states(STATES), 12),
+        (many_states(STATES + 1), 2),
+        (largest(FILE), 0),
+        (largest(FILE + 1), 1),
+        (one_too_many.bytes(), 2),
+    ];
+    for (file, number) in files {
+        let mut random = Random::new(cases::seed());
+        assert_eq!(read_into(&mut random, &file, (COUPLES, STATES, EVOLUTIONS)), number);
+    }
+}
+
+/// Elements that a file's sizes seem to ask of table, words and records.
+fn asked_lengths(file: &[u8]) -> (usize, usize, usize) {
+    match file.get(25..28) {
+        Some(&[inputs, _, states]) => {
+            let states = usize::from(states).min(STATES);
+            let evolutions = usize::from(u16::from_le_bytes([file[18], file[19]])) / 3;
+            (states << usize::from(inputs).min(INPUTS), states, evolutions.min(EVOLUTIONS))
+        }
+        _ => (COUPLES, STATES, EVOLUTIONS),
+    }
+}
+
+fn read_both(random: &mut Random, file: &[u8]) -> usize {
+    let (couples, states, evolutions) = asked_lengths(file);
+    let lengths = (length(random, couples), length(random, states), length(random, evolutions));
+    read_into(random, file, lengths)
+}
+
+/// Reads a file by both into buffers of these lengths; the answer's number.
+fn read_into(random: &mut Random, file: &[u8], lengths: (usize, usize, usize)) -> usize {
+    let mut table = junk_bytes(random, lengths.0);
+    let mut words = junk_words(random, lengths.1);
+    let mut records = junk_records(random, lengths.2);
+    let (mut plain_table, mut plain_words) = (table.clone(), words.clone());
+    let mut plain_records = records.clone();
+    let contents = mundrefol::read(file, &mut table, &mut words, &mut records);
+    let plain = plain::read(file, &mut plain_table, &mut plain_words, &mut plain_records);
+    assert_eq!(contents, plain);
+    assert_same("table", &table, &plain_table);
+    assert_same("words", &words, &plain_words);
+    assert_same("records", &records, &plain_records);
+    contents.answer.number
+}

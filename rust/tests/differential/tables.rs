@@ -1,0 +1,108 @@
+//! The table jobs: marking, the run to a couple, the plan, expected readings.
+
+use super::assert_same;
+use super::cases::try_cases;
+use super::lent::{couples, junk_bytes, junk_words, length, lent_ranks, lent_run, lent_table};
+use mundrefol::generate::{longest_table, Table};
+use mundrefol::plain;
+use mundrefol::plain::{COUPLES, STATES};
+
+const MARK: usize = 8_000;
+const RUN_TO: usize = 8_000;
+const PLAN: usize = 8_000;
+const EXPECTED: usize = 10_000;
+
+#[test]
+fn mark() {
+    try_cases("mark", MARK, &[0, 2, 3, 4, 10, 13], |random| {
+        let lent = lent_table(random);
+        let mut ranks = lent_ranks(random, &lent);
+        let mut plain_ranks = ranks.clone();
+        let answer = mundrefol::mark(lent.frame, &lent.moves, &mut ranks);
+        let plain = plain::mark(lent.frame, &lent.moves, &mut plain_ranks);
+        assert_eq!(answer, plain);
+        assert_same("ranks", &ranks, &plain_ranks);
+        answer.number
+    });
+}
+
+#[test]
+fn run_to() {
+    try_cases("run_to", RUN_TO, &[0, 2, 3, 4, 10, 13, 14, 15, 16], |random| {
+        let lent = lent_table(random);
+        let Table { frame, ref moves } = lent;
+        let couples = couples(&lent);
+        let couple = match random.below(20) {
+            0 => couples + random.below(3),
+            1 => usize::MAX - random.below(2),
+            _ => random.below(couples.max(1)),
+        };
+        let mut ranks = lent_ranks(random, &lent);
+        let mut plain_ranks = ranks.clone();
+        let needed = plain::run_to(frame, moves, &mut ranks.clone(), couple, &mut []);
+        let run_length = length(random, needed.place);
+        let mut run = junk_bytes(random, run_length);
+        let mut plain_run = run.clone();
+        let answer = mundrefol::run_to(frame, moves, &mut ranks, couple, &mut run);
+        let plain = plain::run_to(frame, moves, &mut plain_ranks, couple, &mut plain_run);
+        assert_eq!(answer, plain);
+        assert_same("ranks", &ranks, &plain_ranks);
+        assert_same("run", &run, &plain_run);
+        answer.number
+    });
+}
+
+#[test]
+fn plan() {
+    try_cases("plan", PLAN, &[0, 2, 3, 4, 10, 13, 16], |random| {
+        let lent = lent_table(random);
+        let Table { frame, ref moves } = lent;
+        let mut ranks = lent_ranks(random, &lent);
+        let mut plain_ranks = ranks.clone();
+        let needed = plain::plan(frame, moves, &mut ranks.clone(), &mut []);
+        let plan_length = length(random, needed.place);
+        let mut plan = junk_bytes(random, plan_length);
+        let mut plain_plan = plan.clone();
+        let answer = mundrefol::plan(frame, moves, &mut ranks, &mut plan);
+        let plain = plain::plan(frame, moves, &mut plain_ranks, &mut plain_plan);
+        assert_eq!(answer, plain);
+        assert_same("ranks", &ranks, &plain_ranks);
+        assert_same("plan", &plan, &plain_plan);
+        answer.number
+    });
+}
+
+/// The table with the longest runs: every byte of its plan.
+#[test]
+fn longest_plan() {
+    let Table { frame, moves } = longest_table();
+    let (mut ranks, mut plain_ranks) = (vec![0; COUPLES], vec![1; COUPLES]);
+    let needed = plain::plan(frame, &moves, &mut plain_ranks, &mut []).place;
+    let (mut plan, mut plain_plan) = (vec![0; needed], vec![1; needed]);
+    let answer = mundrefol::plan(frame, &moves, &mut ranks, &mut plan[1..]);
+    assert_eq!((answer.number, answer.place), (16, needed));
+    let answer = mundrefol::plan(frame, &moves, &mut ranks, &mut plan);
+    let plain = plain::plan(frame, &moves, &mut plain_ranks, &mut plain_plan);
+    assert_eq!(answer, plain);
+    assert_same("ranks", &ranks, &plain_ranks);
+    assert_same("plan", &plan, &plain_plan);
+}
+
+#[test]
+fn expected() {
+    try_cases("expected", EXPECTED, &[0, 2, 3, 4, 10, 17], |random| {
+        let lent = lent_table(random);
+        let Table { frame, ref moves } = lent;
+        let run = lent_run(random, &lent);
+        let words_length = length(random, frame.states.min(STATES));
+        let words = junk_words(random, words_length);
+        let readings_length = length(random, (2 * run.len()).saturating_sub(1));
+        let mut readings = junk_words(random, readings_length);
+        let mut plain_readings = readings.clone();
+        let answer = mundrefol::expected(frame, moves, &words, &run, &mut readings);
+        let plain = plain::expected(frame, moves, &words, &run, &mut plain_readings);
+        assert_eq!(answer, plain);
+        assert_same("readings", &readings, &plain_readings);
+        answer.number
+    });
+}
