@@ -10,15 +10,31 @@ use mundrefol::{examples, plain};
 use std::fs;
 use std::os::unix::fs::PermissionsExt;
 use std::path::{Path, PathBuf};
-use std::process::{Command, Output};
+use std::process::{Command, Output, Stdio};
+use std::sync::{Mutex, MutexGuard, PoisonError};
 
 fn root() -> PathBuf {
     Path::new(env!("CARGO_MANIFEST_DIR")).join("..")
 }
 
-fn sheet(root: &Path, arguments: &[&str]) -> Output {
-    let output = Command::new(root.join("sheet")).args(arguments).output();
+/// One executable is written or one program started at a time: a program started while another
+/// test writes an executable holds that file open for a moment, and it could not be run.
+fn alone() -> MutexGuard<'static, ()> {
+    static TURN: Mutex<()> = Mutex::new(());
+    TURN.lock().unwrap_or_else(PoisonError::into_inner)
+}
+
+fn run(command: &mut Command) -> Output {
+    command.stdin(Stdio::null()).stdout(Stdio::piped()).stderr(Stdio::piped());
+    let turn = alone();
+    let started = command.spawn();
+    drop(turn);
+    let output = started.and_then(|program| program.wait_with_output());
     output.expect("the script `sheet` runs")
+}
+
+fn sheet(root: &Path, arguments: &[&str]) -> Output {
+    run(Command::new(root.join("sheet")).args(arguments))
 }
 
 fn status(output: &Output) -> i32 {
@@ -52,18 +68,23 @@ fn usage() {
     }
 }
 
-fn write_script(path: &Path, text: &str) {
+fn write_executable(path: &Path, text: &str) {
     fs::create_dir_all(path.parent().expect("a script has a folder")).expect("the folder is made");
-    fs::write(path, format!("#!/bin/sh\n{text}\n")).expect("the script is written");
+    let _turn = alone();
+    fs::write(path, text).expect("the script is written");
     fs::set_permissions(path, fs::Permissions::from_mode(0o755)).expect("the script may run");
+}
+
+fn write_script(path: &Path, text: &str) {
+    write_executable(path, &format!("#!/bin/sh\n{text}\n"));
 }
 
 /// A root of its own with the script, and a program that is this script.
 fn root_with(name: &str, program: Option<&str>) -> PathBuf {
     let root = PathBuf::from(env!("CARGO_TARGET_TMPDIR")).join(name);
     let _ = fs::remove_dir_all(&root);
-    fs::create_dir_all(&root).expect("the folder is made");
-    fs::copy(self::root().join("sheet"), root.join("sheet")).expect("the script is copied");
+    let script = fs::read_to_string(self::root().join("sheet")).expect("the script is there");
+    write_executable(&root.join("sheet"), &script);
     fs::write(root.join("file"), "").expect("the file is written");
     if let Some(text) = program {
         write_script(&root.join("target/bin/sheet"), text);
@@ -197,8 +218,7 @@ fn building() {
     let path = |tools: &Path| format!("{}:/usr/bin:/bin", tools.display());
     let run = |root: &Path| {
         let mut script = Command::new(root.join("sheet"));
-        script.arg(root.join("file")).env("PATH", path(&root.join("tools")));
-        let output = script.output().expect("the script runs");
+        let output = run(script.arg(root.join("file")).env("PATH", path(&root.join("tools"))));
         (status(&output), String::from_utf8_lossy(&output.stdout).into_owned())
     };
     let missing = root_with("without-rt", None);
