@@ -3,7 +3,7 @@ ghost use mathlib.Core.Path.{_≡_};
 ghost use lib.ListN.{getD};
 ghost use Rattle.verdict.specs.Checks.{Decides};
 ghost use Rattle.machine.specs.Runs.{machineOf};
-ghost use Rattle.specification.specs.Evolutions.{blank, Met};
+ghost use Rattle.evolutions.specs.Evolutions.{blank, Met};
 ghost use Rattle.specification.specs.Reading.{ReadAs};
 ghost use Rattle.marking.specs.Marking.{MarkedAs};
 ghost use Rattle.plan.specs.Planning.{RunAs, PlannedAs};
@@ -11,9 +11,9 @@ ghost use Rattle.readings.specs.Expected.{ExpectedAs};
 ghost use Rattle.bench.specs.Log.{Reading, numberOf, placeOf, kindOf, updateOf};
 ghost use Rattle.abi.specs.Answers.{outcomeOf};
 use bench::Log;
+use evolutions::Evolution;
 use machine::Frame;
 use specification::Contents;
-use specification::Evolution;
 use verdict::Answer;
 
 // What an update of a log answers: its number and place, and kind 0 for equal, 1 for stored, 2 for full, 3 with a refusal.
@@ -37,7 +37,7 @@ pub extern "C" fn mundrefol_read(
     specification::read(file, table, words, records)
 }
 
-// `specification::evolution_holds`.
+// `evolutions::evolution_holds`.
 #[no_mangle]
 pub extern "C" fn mundrefol_evolution_holds(
     records: &[Evolution],
@@ -48,7 +48,7 @@ pub extern "C" fn mundrefol_evolution_holds(
 ) -> bool
     ensures { λ r. ⌜ Decides (Met (now (file .entry)) (getD (now (records .entry)) evolution blank) inputs setting) r ⌝ }
 {
-    specification::evolution_holds(records, evolution, file, inputs, setting)
+    evolutions::evolution_holds(records, evolution, file, inputs, setting)
 }
 
 // `marking::mark`.

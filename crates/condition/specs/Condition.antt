@@ -2,6 +2,7 @@
 use Prim.Native.Nat.{ℕ, _≤_}
 use mathlib.Core.Path.{_≡_}
 use mathlib.Core.List.{List}
+use mathlib.Core.Bool.{true}
 use Rattle.condition.specs.Grammar.{condition, Tree, text, opened, Below, holds}
 use Rattle.condition.specs.declared.Meaning.{Meaning}
 use Rattle.condition.specs.declared.Meaning.the-variants.{Is, Unread}
@@ -16,6 +17,11 @@ pub record Reads (n : ℕ) (w : List ℕ) : Type 0 where
   pub spelt : text tree ≡ w
   pub nested : opened tree ≤ parentheses
   pub known : Below n tree
+
+-- w is the text of a condition which holds at the setting v
+pub record Holds (n v : ℕ) (w : List ℕ) : Type 0 where
+  pub reads : Reads n w
+  pub true-there : holds v (reads .tree) ≡ true
 
 -- the number of each answer: 0 is success, 5 a condition that does not read
 abbrev pub numberOf : Meaning → ℕ

@@ -20,7 +20,7 @@ use Rattle.machine.proofs.Small.{run-to-small}
 use Rattle.machine.proofs.Plans.{plan-runs}
 use Rattle.machine.proofs.Stored.{split-stored}
 use Rattle.tables.specs.Tables.{Tabled}
-use Rattle.tables.proofs.Gate.{couples-few}
+use Rattle.machine.proofs.Sizes.{couples-few}
 use Rattle.marking.specs.Marking.{markChecks, MarkedAs}
 use Rattle.plan.specs.Planning.{ShortPlan, PlanDone, PlannedAs}
 use Rattle.plan.proofs.Held.{held-checked, plan-held}

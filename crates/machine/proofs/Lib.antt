@@ -4,6 +4,7 @@ pub mod Soundness
 pub mod Same
 pub mod Inputs
 pub mod Couples
+pub mod Sizes
 pub mod Readings
 pub mod Trails
 pub mod Tests
@@ -16,3 +17,4 @@ pub mod Rounds
 pub mod Flips
 pub mod Faults
 pub mod Certificate
+pub mod Once

@@ -1,4 +1,8 @@
-// The frame of a machine, and its largest sizes. The definitions of machines and runs stand in specs/, their laws in proofs/.
+// The frame of a machine, its largest sizes and their test. The definitions of machines and runs stand in specs/, their laws in proofs/.
+ghost use mathlib.Core.Path.{_≡_};
+ghost use Prim.Native.Nat.{_<_, _≤_, _^_};
+ghost use Rattle.verdict.specs.Checks.{Decides};
+ghost use Rattle.machine.specs.Limits.{mostInputs, mostSettings, Sized};
 
 // What a table job is told beside the table.
 #[repr(C)]
@@ -22,3 +26,30 @@ pub const COUPLES: usize = STATES * SETTINGS;
 
 // What a rank buffer holds for a couple that no run visits.
 pub const UNMARKED: u16 = 65535;
+
+// How many settings there are, at most as many inputs as a machine may have; 0 for more.
+pub fn settings(inputs: usize) -> usize
+    ensures few { λ r. ⌜ (inputs ≤ mostInputs → r ≡ 2 ^ inputs) × (r ≤ mostSettings) ⌝ }
+    ensures many { λ r. ⌜ (mostInputs < inputs → r ≡ 0) ⌝ }
+{
+    if INPUTS < inputs {
+        return 0;
+    }
+    1 << inputs
+}
+
+// Whether the sizes are in their ranges: otherwise refusal 2.
+pub fn sized(frame: Frame) -> bool
+    ensures { λ r. ⌜ Decides (Sized (frame .inputs) (frame .states) (frame .initial)) r ⌝ }
+{
+    if frame.inputs < 1 {
+        return false;
+    }
+    if INPUTS < frame.inputs {
+        return false;
+    }
+    if STATES < frame.states {
+        return false;
+    }
+    frame.initial < frame.states
+}

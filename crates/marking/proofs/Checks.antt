@@ -5,14 +5,15 @@ use mathlib.Core.List.{List, _++_}
 use Prim.Native.Nat.{ℕ, _*_, _≤_}
 use native.Mathlib.Omega.{arith}
 use lib.ListN.{length}
-use Rattle.verdict.specs.Checks.{Check, refused, next, Passed, Judged, Verdict}
+use Rattle.verdict.specs.Checks.{Check, refused, next, Passed, Judged, Verdict, roomChecks}
 use Rattle.verdict.specs.declared.Answer.{Answer}
 use Rattle.verdict.proofs.Tests.{whole, meets}
 use Rattle.verdict.proofs.Order.{Passes, roomy, judged-passes, judged-done, judged-rest, judged-on, judged-stop, pass, halt}
-use Rattle.machine.specs.Limits.{mostInputs, mostCouples}
+use Rattle.machine.specs.Limits.{mostInputs, mostCouples, Sized}
 use Rattle.machine.specs.Runs.{Machine, size, couples, Starts}
-use Rattle.tables.specs.Tables.{Sized, Tabled, moveChecks, startChecks, sizeChecks, tableChecks, roomChecks}
-use Rattle.tables.proofs.Gate.{couples-are, couples-few, size-passes, size-passed, move-passed}
+use Rattle.tables.specs.Tables.{Tabled, moveChecks, startChecks, sizeChecks, tableChecks}
+use Rattle.machine.proofs.Sizes.{couples-are, couples-few}
+use Rattle.tables.proofs.Gate.{size-passes, size-passed, move-passed}
 use Rattle.tables.specs.inner.Fits.{Checked}
 use Rattle.marking.specs.Marking.{markChecks, MarkedAs, parentChecks, ParentedAs}
 use Rattle.marking.specs.inner.Queue.{SizedAs}

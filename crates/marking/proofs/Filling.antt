@@ -17,7 +17,7 @@ use Rattle.machine.specs.Shortest.{ParentOrNone}
 use Rattle.machine.specs.inner.Model.{Listed}
 use Rattle.marking.specs.inner.Queue.{Room, Pushed, ByRest, ByStart, Spreads, Rows, Leveled, Ready, Levels}
 use Rattle.machine.proofs.Flips.{Single}
-use Rattle.tables.proofs.Gate.{couples-few}
+use Rattle.machine.proofs.Sizes.{couples-few}
 use Rattle.marking.proofs.Levels.{levels-small, levels-free, levels-next, levels-last, levels-start}
 
 -- a list whose elements are all needed

@@ -15,7 +15,8 @@ use Rattle.machine.specs.Runs.{Machine, size, couples, RankOrUnmarked}
 use Rattle.machine.specs.Shortest.{ParentOrNone}
 use Rattle.tables.specs.Tables.{Tabled, moveChecks, startChecks}
 use Rattle.tables.specs.inner.Fits.{Checked}
-use Rattle.tables.proofs.Gate.{couples-are, couples-few, size-passed}
+use Rattle.machine.proofs.Sizes.{couples-are, couples-few}
+use Rattle.tables.proofs.Gate.{size-passed}
 use Rattle.marking.specs.Marking.{ParentedAs}
 use Rattle.marking.specs.inner.Queue.{SizedAs, Exact, ExactAs, Ready}
 use Rattle.marking.proofs.Parts.{part-length, left-part}

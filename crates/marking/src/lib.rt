@@ -9,13 +9,13 @@ ghost use Rattle.marking.specs.inner.Queue.{SizedAs, Exact, ExactAs};
 use machine::COUPLES;
 use machine::Frame;
 use machine::UNMARKED;
-use tables::Room;
-use tables::check_rooms;
+use machine::settings;
+use machine::sized;
 use tables::check_table;
-use tables::settings;
-use tables::sized;
 use tables::started;
 use verdict::Answer;
+use verdict::Room;
+use verdict::check_rooms;
 
 mod queue;
 

@@ -237,7 +237,7 @@ pub(crate) fn fill(frame: Frame, table: &[u8], ranks: &mut [u16], parents: &mut 
 {
     let sizes = Sizes {
         frame: frame,
-        settings: tables::settings(frame.inputs),
+        settings: machine::settings(frame.inputs),
     };
     let mut queue = [0u16; COUPLES];
     levels(sizes, table, ranks, parents, &mut queue);

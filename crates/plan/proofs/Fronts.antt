@@ -8,7 +8,7 @@ use lib.ListN.{length, set, drop, take, length-append, length-drop}
 use lib.Seq.{drop-cons, getD-set-same, drop-set-lt, drop-drop, drop-length, take-all, take-at, drop-at, lt-length-set}
 use borrow.Rule.Slice.PartMut.{post-is}
 use Rattle.verdict.specs.Buffers.{Front}
-use Rattle.plan.specs.inner.Writing.{Put}
+use Rattle.plan.specs.inner.Writing.{Put, Ends}
 
 -- from index m on, after a write at m
 pub drop-set-here : (l : List ℕ) (m v : ℕ) → m < length l → drop m (set l m v) ≡ v ∷ drop (suc m) l
@@ -34,6 +34,14 @@ rest-back l a n w m h e =
 -- that is the front
 pub put-front : {w : List ℕ} {n : ℕ} {a b : List ℕ} → Put w n a b → Front w a b
 put-front {w} {n} {a} {b} p = record { is = subst (λ (k : ℕ). b ≡ w ++ drop k a) (p .count) (p .is) }
+
+-- what is written, or would be, has n elements
+module _ {w a : List ℕ} {n : ℕ} (e : n ≡ length w) where
+  pub ends-short : length a < n → Ends w a (record { number = 16; place = n }) a
+  ends-short l = rw e (Ends.short (rw (← e) l))
+
+  pub ends-front : {b : List ℕ} → n ≤ length a → Front w a b → Ends w a (record { number = 0; place = n }) b
+  ends-front l f = rw e (Ends.fits (rw (← e) l) f)
 
 -- nothing is written yet
 pub put-none : {a : List ℕ} → Put [] 0 a a

@@ -21,7 +21,7 @@ use Rattle.machine.proofs.Couples.{settings-bound}
 use Rattle.machine.proofs.Small.{rank-unique}
 use Rattle.machine.proofs.Exists.{marked-below}
 use Rattle.tables.specs.inner.Fits.{Checked}
-use Rattle.tables.proofs.Gate.{couples-few}
+use Rattle.machine.proofs.Sizes.{couples-few}
 use Rattle.marking.specs.Marking.{markChecks, ParentedAs}
 use Rattle.marking.proofs.Checks.{mark-checked, ranks-long, without-parents}
 use Rattle.plan.specs.inner.Writing.{Tree}
@@ -97,11 +97,11 @@ module _ {m : Machine} {ranks₀ R P : List ℕ} {a : Answer} (y : Ready m ranks
   pub tree : Tree P (size m) (couples m)
   tree = record { some = pow-pos (m .inputs); small = settings-bound (y .checked .tabled .sized .few-inputs); long = y .parents-long; parent = parent-low }
 
-  pub room : (flags : ℕ) → mostCouples ≤ flags → Room (m .table) P (size m) flags (couples m)
-  room flags h = record {
+  pub room : Room (m .table) P (size m) mostCouples (couples m)
+  room = record {
     tree = tree;
     table-long = y .checked .tabled .long;
-    flags-long = omega (arith, few-couples);
+    flags-long = few-couples;
     row = λ c v k l. digits-lt (div-lt-iff-lt-mul (pow-pos (m .inputs)) .1 k) l;
     moved = λ c v k l. digits-lt (y .checked .sound .closed c k) l;
   }

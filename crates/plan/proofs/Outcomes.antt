@@ -1,19 +1,17 @@
 -- Each way in which the run to a couple and the plan end keeps its promise: the verdict of marking goes on with the later checks, or
 -- ends it.
-use mathlib.Core.Path.{_≡_, refl, sym, ap, subst, _∙_}
+use mathlib.Core.Path.{_≡_, refl, sym, ap, _∙_}
 use mathlib.Core.Logic.{inl, inr}
 use mathlib.Core.List.{List, _++_}
-use mathlib.Core.Bool.{Bool, false}
-use Prim.Native.Nat.{ℕ, _+_, _≤_, _<_}
+use Prim.Native.Nat.{ℕ, _+_, _≤_}
 use native.Mathlib.Omega.{arith}
-use lib.ListN.{length, getD, replicate}
+use lib.ListN.{length, getD}
 use Rattle.verdict.specs.Checks.{Check, Judged}
-use Rattle.verdict.specs.Buffers.{Front}
 use Rattle.verdict.specs.declared.Answer.{Answer}
 use Rattle.verdict.proofs.Tests.{whole, meets}
 use Rattle.verdict.proofs.Order.{judged-on, judged-stop, pass, halt}
 use Rattle.verdict.proofs.Fills.{left-filled, written-nothing, written-done}
-use Rattle.machine.specs.Limits.{mostCouples, unmarked}
+use Rattle.machine.specs.Limits.{mostCouples}
 use Rattle.machine.specs.Runs.{Machine, size, couples, Sound}
 use Rattle.machine.specs.Plans.{stored}
 use Rattle.machine.proofs.Small.{rank-unique}
@@ -21,12 +19,11 @@ use Rattle.machine.proofs.Plans.{plan-unique}
 use Rattle.marking.specs.Marking.{markChecks, ParentedAs}
 use Rattle.marking.proofs.Checks.{without-parents}
 use Rattle.plan.specs.Planning.{runChecks, RunDone, RunAs, PlanBytes, PlannedAs}
-use Rattle.plan.specs.inner.Writing.{settings, pieces, Put}
-use Rattle.plan.specs.inner.Choosing.{plan, Chosen}
-use Rattle.plan.proofs.Fronts.{put-front}
-use Rattle.plan.proofs.Flags.{chosen-bytes, chosen-plan}
+use Rattle.plan.specs.inner.Writing.{Ends, RunEnds}
+use Rattle.plan.specs.inner.Choosing.{wholePlan}
+use Rattle.plan.proofs.Chains.{length-settings}
 use Rattle.plan.proofs.Noted.{run-to, plan-made}
-use Rattle.plan.proofs.Marked.{Ready, listed, ranked, is-marked, unranked}
+use Rattle.plan.proofs.Marked.{Ready, few-couples, listed, ranked, is-marked, unranked}
 
 -- the stored plan is one
 pub bytes-unique : {m : Machine} → Sound m → {w u : List ℕ} → PlanBytes m w → PlanBytes m u → w ≡ u
@@ -50,54 +47,42 @@ module _ {m : Machine} {ranks₀ R P : List ℕ} {a : Answer} (y : Ready m ranks
   run-ended : {c : ℕ} {run : List ℕ} {b : Answer} → 14 ≤ b .number → Judged (runChecks m c (length ranks₀) (length run)) (RunDone m c) b → RunAs m c ranks₀ run b R run
   run-ended h v = record { verdict = v; ranks = left-filled (inr h) (y .ranks); run = written-nothing (λ e. omega arith) }
 
-  -- the run to couple c, of which the cell of the ranks holds r
-  pub run-outside : {c : ℕ} {run : List ℕ} → couples m ≤ c → RunAs m c ranks₀ run (record { number = 14; place = 0 }) R run
-  run-outside h = run-ended (omega arith) (onward (halt (whole (λ l. omega arith))))
-
-  pub run-unmarked : {c : ℕ} {run : List ℕ} → c < couples m → getD R c 0 ≡ unmarked → RunAs m c ranks₀ run (record { number = 15; place = 0 }) R run
-  run-unmarked {c} h e = run-ended (omega arith) (onward (pass (meets h) (halt (whole (unranked y c h e)))))
-
-  pub run-short : {c : ℕ} {run : List ℕ} → c < couples m → (getD R c 0 ≡ unmarked → ⊥) → length run < getD R c 0 + 1
-      → RunAs m c ranks₀ run (record { number = 16; place = getD R c 0 + 1 }) R run
-  run-short {c} h u l = run-ended (omega arith) (onward (pass (meets h) (pass (meets (is-marked y c h u)) (halt (record {
-    here = (getD R c 0, ranked y c h u, (refl, l));
+  -- the run to couple c, by the cell of the ranks
+  pub run-ends : {c : ℕ} {run run₁ : List ℕ} {b : Answer} → RunEnds R P (size m) (couples m) c run b run₁ → RunAs m c ranks₀ run b R run₁
+  run-ends (RunEnds.outside h) = run-ended (omega arith) (onward (halt (whole (λ l. omega arith))))
+  run-ends {c} (RunEnds.unranked h e) = run-ended (omega arith) (onward (pass (meets h) (halt (whole (unranked y c h e)))))
+  run-ends {c} (RunEnds.ranked h u (Ends.short l)) = rw (length-settings P (size m) (getD R c 0 + 1) c) (run-ended (omega arith) (onward (pass (meets h) (pass (meets (is-marked y c h u)) (halt (record {
+    here = (getD R c 0, ranked y c h u, (refl, rw (length-settings P (size m) (getD R c 0 + 1) c) at l));
     first = λ q k s. let e = rank-unique (ranked y c h u) (s .1) in let f = s .2 .0 in omega arith;
-  })))))
-
-  pub run-written : {c : ℕ} {run run₁ : List ℕ} → c < couples m → (getD R c 0 ≡ unmarked → ⊥) → getD R c 0 + 1 ≤ length run
-      → Put (settings P (size m) c (getD R c 0 + 1)) (getD R c 0 + 1) run run₁ → RunAs m c ranks₀ run (record { number = 0; place = getD R c 0 + 1 }) R run₁
-  run-written {c} h u l w = record {
+  }))))))
+  run-ends {c} (RunEnds.ranked h u (Ends.fits l w)) = record {
     verdict = onward (pass (meets h) (pass (meets (is-marked y c h u)) (pass
-        (record { nowhere = λ q s. let e = rank-unique (ranked y c h u) (s .1) in let f = s .2 .1 in omega arith })
-        (record { verdict = record { number = refl; rank = getD R c 0; ranked = ranked y c h u; place = refl } }))));
+        (record { nowhere = λ q s. let e = rank-unique (ranked y c h u) (s .1) in let f = s .2 .1 in omega (arith, length-settings P (size m) (getD R c 0 + 1) c) })
+        (record { verdict = record { number = refl; rank = getD R c 0; ranked = ranked y c h u; place = length-settings P (size m) (getD R c 0 + 1) c } }))));
     ranks = left-filled (inl refl) (y .ranks);
-    run = written-done refl (put-front w) (run-to (y .checked .sound) (listed y) c (ranked y c h u));
+    run = written-done refl w (run-to (y .checked .sound) (listed y) c (ranked y c h u));
   }
 
-  -- the plan, of which the first pass counted n bytes
-  module _ {k n : ℕ} {C W C′ : List Bool} (made : Chosen (m .table) P R (size m) (couples m) n (replicate k false) C W C′) (room : couples m ≤ k) where
-    bytes : PlanBytes m (plan (m .table) P R (size m) (couples m) (replicate k false))
-    bytes = plan-made (y .checked .sound) (listed y) k room
+  -- the plan
+  bytes : PlanBytes m (wholePlan (m .table) P R (size m) (couples m))
+  bytes = plan-made (y .checked .sound) (listed y) mostCouples (few-couples y)
 
-    pub plan-short : {out : List ℕ} → length out < n → PlannedAs m ranks₀ out (record { number = 16; place = n }) R out
-    plan-short l = record {
-      verdict = onward (halt (record {
-        here = (_, bytes, (chosen-bytes made, omega (arith, chosen-bytes made)));
-        first = λ q h s.
-            let e = ap length (bytes-unique (y .checked .sound) bytes (s .1)) in
-            let f = s .2 .0 in
-            omega (arith, chosen-bytes made);
-      }));
-      ranks = left-filled (inr (omega arith)) (y .ranks);
-      plan = written-nothing (λ e. omega arith);
-    }
-
-    pub plan-written : {out out₁ : List ℕ} → couples m ≤ length C → n ≤ length out
-        → Front (pieces P R (size m) C′ (couples m)) out out₁ → PlannedAs m ranks₀ out (record { number = 0; place = n }) R out₁
-    plan-written h l w = record {
-      verdict = onward (pass
-          (record { nowhere = λ q s. let e = ap length (bytes-unique (y .checked .sound) bytes (s .1)) in let f = s .2 .1 in omega (arith, chosen-bytes made) })
-          (record { verdict = record { number = refl; bytes = _; planned = bytes; place = chosen-bytes made } }));
-      ranks = left-filled (inl refl) (y .ranks);
-      plan = written-done refl w (subst (PlanBytes m) (sym (chosen-plan made h)) bytes);
-    }
+  pub plan-ends : {out out₁ : List ℕ} {b : Answer} → Ends (wholePlan (m .table) P R (size m) (couples m)) out b out₁ → PlannedAs m ranks₀ out b R out₁
+  plan-ends (Ends.short l) = record {
+    verdict = onward (halt (record {
+      here = (_, bytes, (refl, l));
+      first = λ q h s.
+          let e = ap length (bytes-unique (y .checked .sound) bytes (s .1)) in
+          let f = s .2 .0 in
+          omega arith;
+    }));
+    ranks = left-filled (inr (omega arith)) (y .ranks);
+    plan = written-nothing (λ e. omega arith);
+  }
+  plan-ends (Ends.fits l w) = record {
+    verdict = onward (pass
+        (record { nowhere = λ q s. let e = ap length (bytes-unique (y .checked .sound) bytes (s .1)) in let f = s .2 .1 in omega arith })
+        (record { verdict = record { number = refl; bytes = _; planned = bytes; place = refl } }));
+    ranks = left-filled (inl refl) (y .ranks);
+    plan = written-done refl w bytes;
+  }

@@ -2,15 +2,15 @@
 ghost use mathlib.Core.Path.{_≡_};
 ghost use mathlib.Core.List.{[], _∷_};
 ghost use mathlib.Core.Bool.{true, false};
-ghost use Prim.Native.Nat.{_+_, _*_, _/_, _%_, _≤_, _<_};
+ghost use Prim.Native.Nat.{ℕ, _+_, _*_, _/_, _%_, _≤_, _<_};
 ghost use lib.ListN.{length, getD};
 ghost use Rattle.verdict.specs.Buffers.{Front};
 ghost use Rattle.machine.specs.Limits.{mostCouples, unmarked};
 ghost use Rattle.machine.specs.Runs.{machineOf};
 ghost use Rattle.machine.specs.Plans.{storedRun};
 ghost use Rattle.plan.specs.Planning.{RunAs, PlannedAs};
-ghost use Rattle.plan.specs.inner.Writing.{settings, piece, pieces, Tree, InTree, Put, Flags};
-ghost use Rattle.plan.specs.inner.Choosing.{notedChange, notedRun, Reach, Room, RoomFor, Turn, Chosen};
+ghost use Rattle.plan.specs.inner.Writing.{settings, piece, pieces, Tree, InTree, Put, Flags, Ends, RunEnds};
+ghost use Rattle.plan.specs.inner.Choosing.{notedChange, notedRun, Reach, Room, RoomFor, Turn, Chosen, wholePlan};
 use basics::byte;
 use basics::long;
 use basics::wide;
@@ -36,8 +36,23 @@ pub fn run_to(
     if marked.number != 0 {
         return marked;
     }
-    let size = tables::settings(frame.inputs);
-    if frame.states * size <= couple {
+    let size = machine::settings(frame.inputs);
+    run_marked(ranks, &parents, size, frame.states * size, couple, run)
+}
+
+// Refusals 14 to 16, and the run to a couple, by ranks and parents.
+fn run_marked(
+    ranks: &[u16],
+    parents: &[u16],
+    size: usize,
+    couples: usize,
+    couple: usize,
+    run: &mut [u8],
+) -> Answer
+    requires { ⌜ Tree (now parents) size couples × (couples ≤ length (now ranks)) ⌝ }
+    ensures { λ r. ⌜ RunEnds (now (ranks .entry)) (now (parents .entry)) size couples couple (now (run .entry)) r (now (run .exit)) ⌝ }
+{
+    if couples <= couple {
         return Answer {
             number: 14,
             place: 0,
@@ -58,7 +73,7 @@ pub fn run_to(
             place: needed,
         };
     }
-    write_run(&parents, size, couple, rank, run);
+    write_run(parents, size, couple, rank, run);
     Answer {
         number: 0,
         place: needed,
@@ -75,13 +90,28 @@ pub fn plan(frame: Frame, table: &[u8], ranks: &mut [u16], plan: &mut [u8]) -> A
     if marked.number != 0 {
         return marked;
     }
-    let size = tables::settings(frame.inputs);
-    let couples = frame.states * size;
+    let size = machine::settings(frame.inputs);
+    plan_marked(table, &parents, ranks, size, frame.states * size, plan)
+}
+
+// Refusal 16, and the plan, by ranks and parents.
+fn plan_marked(
+    table: &[u8],
+    parents: &[u16],
+    ranks: &[u16],
+    size: usize,
+    couples: usize,
+    plan: &mut [u8],
+) -> Answer
+    requires { ⌜ Room (now table) (now parents) size mostCouples couples × (couples ≤ length (now ranks)) ⌝ }
+    requires { ⌜ ((c : ℕ) → c < couples → getD (now ranks) c 0 ≤ unmarked) ⌝ }
+    ensures { λ r. ⌜ Ends (wholePlan (now (table .entry)) (now (parents .entry)) (now (ranks .entry)) size couples) (now (plan .entry)) r (now (plan .exit)) ⌝ }
+{
     let mut visited = [false; COUPLES];
     let mut chosen = [false; COUPLES];
     let bytes = choose(
         table,
-        &parents,
+        parents,
         ranks,
         size,
         couples,
@@ -94,7 +124,7 @@ pub fn plan(frame: Frame, table: &[u8], ranks: &mut [u16], plan: &mut [u8]) -> A
             place: bytes,
         };
     }
-    write_plan(&parents, ranks, &chosen, size, couples, plan);
+    write_plan(parents, ranks, &chosen, size, couples, plan);
     Answer {
         number: 0,
         place: bytes,

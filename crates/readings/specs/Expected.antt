@@ -6,9 +6,10 @@ use lib.ListN.{length, getD}
 use Rattle.verdict.specs.Checks.{Check, check, Unless, Short, Judged}
 use Rattle.verdict.specs.Buffers.{Written}
 use Rattle.verdict.specs.declared.Answer.{Answer}
+use Rattle.machine.specs.Limits.{Sized}
 use Rattle.machine.specs.Runs.{Machine, couples, Fault}
 use Rattle.machine.specs.Boards.{readings, specified}
-use Rattle.tables.specs.Tables.{Sized, moveChecks}
+use Rattle.tables.specs.Tables.{moveChecks}
 
 -- a run handed in has at most 65,535 settings
 abbrev pub longestRun : ℕ

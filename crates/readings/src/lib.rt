@@ -11,14 +11,14 @@ ghost use Rattle.readings.specs.Expected.{readingsNeeded, shapeChecks, E
 ghost use Rattle.readings.specs.inner.Walking.{Walkable};
 use basics::wide;
 use machine::Frame;
+use machine::settings;
+use machine::sized;
 use runs::check_run;
 use runs::setting;
-use tables::Room;
-use tables::check_rooms;
 use tables::check_table;
-use tables::settings;
-use tables::sized;
 use verdict::Answer;
+use verdict::Room;
+use verdict::check_rooms;
 
 // A run handed in has at most so many settings.
 pub const LONGEST_RUN: usize = 65535;

@@ -25,12 +25,12 @@ use denote.Slice.{Room}
 use denote.Index.{row, whole-out, whole-in}
 use denote.Steps.{owned}
 use denote.Struct.Laws as LL
-use Rattle.specification.specs.declared.Evolution.{Evolution}
+use Rattle.evolutions.specs.declared.Evolution.{Evolution}
 use Rattle.specification.specs.Limits.{mostEvolutions}
-use Rattle.specification.specs.Evolutions.{blank}
-use Rattle.specification.proofs.Rows.{R, val, blank-is}
-use Rattle.specification.proofs.Evolution as T
-use Rattle.specification.proofs.Evolution.Laws as T′
+use Rattle.evolutions.specs.Evolutions.{blank}
+use Rattle.evolutions.proofs.Rows.{R, val, blank-is}
+use Rattle.evolutions.proofs.Evolution as T
+use Rattle.evolutions.proofs.Evolution.Laws as T′
 
 each-is : (n : ℕ) → shadow (each Evolution (R .own) (replicate n blank) (replicate n (val blank)))
 each-is zero = tt

@@ -2,21 +2,32 @@
 // the words hold, 7 before.
 ghost use mathlib.Core.Path.{_≡_};
 ghost use lib.ListN.{length};
+use crate::changes::before;
+use crate::changes::blanks;
+use crate::changes::change;
 use crate::lines::answer;
 use crate::lines::bytes;
 use crate::lines::end;
-use crate::lines::name;
 use crate::lines::number;
 use crate::lines::values;
 use crate::lines::word;
-use basics::wide;
 use specification::Contents;
 
 // The bytes of the lamp's file.
 pub(crate) const LAMP: usize = 47;
 
+pub(crate) fn rows() {
+    whole();
+    contents();
+    sizes();
+    room();
+    records();
+    rules();
+    order();
+}
+
 // The lamp and the gate, and the shortest file that reads: one state, at rest at `1`.
-pub(crate) fn whole() {
+fn whole() {
     lamp(b"lamp file", b"");
     let mut table = [7u8; 49];
     let mut words = [7u16; 4];
@@ -37,88 +48,98 @@ pub(crate) fn whole() {
 }
 
 // Refusal 1.
-pub(crate) fn contents() {
-    lamp(b"mark", &[3, b'9']);
-    lamp(b"count", &[4, 5]);
-    lamp(b"kind", &[10, 3]);
-    lamp(b"first body later", &[6, 26]);
-    lamp(b"gap", &[16, 36]);
-    lamp(b"overlap", &[16, 34]);
-    lamp(b"end before the file's", &[23, 5]);
-    lamp(b"end behind the file's", &[23, 7]);
-    lamp(b"kind 1 of 7 bytes", &[8, 7, 11, 32, 13, 3]);
-    lamp(b"kind 2 of 5 bytes, kind 3 of 7", &[13, 5, 16, 34, 18, 7]);
-    lamp(
-        b"offsets that fit modulo 65536",
-        &[13, 252, 14, 255, 16, 25, 18, 15, 21, 40, 23, 7],
+fn contents() {
+    lamps(
+        b"
+        mark: 3'9
+        count: 4=5
+        kind: 10=3
+        first body later: 6=26
+        gap: 16=36
+        overlap: 16=34
+        end before the file's: 23=5
+        end behind the file's: 23=7
+        kind 1 of 7 bytes: 8=7 11=32 13=3
+        kind 2 of 5 bytes, kind 3 of 7: 13=5 16=34 18=7
+        offsets that fit modulo 65536: 13=252 14=255 16=25 18=15 21=40 23=7
+        ",
     );
 }
 
 // Refusal 2, and the sizes beside those that it refuses.
-pub(crate) fn sizes() {
-    lamp(b"no inputs", &[25, 0]);
-    lamp(b"8 inputs, table of 5", &[25, 8]);
-    lamp(b"9 inputs", &[25, 9]);
-    lamp(b"no outputs", &[26, 0]);
-    lamp(b"16 outputs", &[26, 16]);
-    lamp(b"17 outputs", &[26, 17]);
-    lamp(b"1 state, kind 2 of 6 bytes", &[27, 1]);
-    lamp(b"3 states, kind 2 of 6 bytes", &[27, 3]);
-    lamp(b"initial 1", &[28, 1]);
-    lamp(b"initial 2", &[28, 2]);
-    lamp(b"conditions of 7 bytes, kind 4 of 6", &[31, 3]);
+fn sizes() {
+    lamps(
+        b"
+        no inputs: 25=0
+        8 inputs, table of 5: 25=8
+        9 inputs: 25=9
+        no outputs: 26=0
+        16 outputs: 26=16
+        17 outputs: 26=17
+        1 state, kind 2 of 6 bytes: 27=1
+        3 states, kind 2 of 6 bytes: 27=3
+        initial 1: 28=1
+        initial 2: 28=2
+        conditions of 7 bytes, kind 4 of 6: 31=3
+        ",
+    );
 }
 
 // Refusal 3.
-pub(crate) fn room() {
-    let file = lamp_file();
-    let mut table = [7u8; 3];
-    let mut words = [7u16; 2];
-    lent(b"table of 3", &file, &mut table, &mut words);
-    let mut table = [7u8; 4];
-    let mut words = [7u16; 1];
-    lent(b"words of 1", &file, &mut table, &mut words);
-    let mut table = [7u8; 3];
-    let mut words = [7u16; 1];
-    lent(b"table of 3, words of 1", &file, &mut table, &mut words);
+fn room() {
+    lamp_into(b"table of 3", b"", 3, 2);
+    lamp_into(b"words of 1", b"", 4, 1);
+    lamp_into(b"table of 3, words of 1", b"", 3, 1);
 }
 
 // Refusals 4 to 7.
-pub(crate) fn records() {
-    lamp(b"output bit 1 of 1", &[32, 2]);
-    lamp(b"output bit 8 of 1", &[30, 1]);
-    lamp(b"source 2 of 2", &[38, 2]);
-    lamp(b"target 255 of 2", &[36, 255]);
-    lamp(b"condition +a", &[41, b'+']);
-    lamp(b"condition !b with 1 input", &[46, b'b']);
-    lamp(b"empty condition", &[34, 0, 37, 2]);
-    lamp(b"own source", &[36, 0]);
-    lamp(b"same source and target", &[38, 0, 39, 1]);
+fn records() {
+    lamps(
+        b"
+        output bit 1 of 1: 32=2
+        output bit 8 of 1: 30=1
+        source 2 of 2: 38=2
+        target 255 of 2: 36=255
+        condition +a: 41'+
+        condition !b with 1 input: 46'b
+        empty condition: 34=0 37=2
+        own source: 36=0
+        same source and target: 38=0 39=1
+        ",
+    );
 }
 
 // Refusals 8 to 13.
-pub(crate) fn rules() {
-    lamp(b"rest !0 and a", &[42, b'0']);
-    lamp(b"rest !1 and a", &[42, b'1']);
-    lamp(b"rest 0 and !a", &[43, b'0']);
-    lamp(b"transient", &[43, b'0', 46, b'0']);
-    lamp(b"same word", &[32, 0]);
-    lamp(b"never reached", &[42, b'0', 44, b'0']);
-    lamp(b"no start", &[42, b'1', 43, b'1', 44, b'1', 46, b'1']);
+fn rules() {
+    lamps(
+        b"
+        rest !0 and a: 42'0
+        rest !1 and a: 42'1
+        rest 0 and !a: 43'0
+        transient: 43'0 46'0
+        same word: 32=0
+        never reached: 42'0 44'0
+        no start: 42'1 43'1 44'1 46'1
+        ",
+    );
 }
 
 // Two faults in one file: each check runs over the whole of it before the next.
-pub(crate) fn order() {
-    lamp(b"1 before 2", &[3, b'9', 25, 9]);
-    lamp(b"2 before 4", &[28, 2, 32, 2]);
-    lamp(b"4 at record 3 before 5 at record 0", &[39, 9, 41, b'+']);
-    lamp(b"5 at record 3 before 6 at record 2", &[36, 0, 45, b'+']);
-    lamp(b"6 before 7", &[36, 0, 38, 0, 39, 0]);
-    lamp(b"7 before 8", &[38, 0, 39, 1, 46, b'0']);
-    lamp(b"8 at couple 3 before 9 at couple 0", &[42, b'1', 46, b'0']);
-    lamp(b"9 before 11", &[32, 0, 43, b'0']);
-    lamp(b"10 before 11", &[32, 0, 43, b'0', 46, b'0']);
-    lamp(b"11 before 12", &[32, 0, 42, b'0', 44, b'0']);
+fn order() {
+    lamps(
+        b"
+        1 before 2: 3'9 25=9
+        2 before 4: 28=2 32=2
+        4 at record 3 before 5 at record 0: 39=9 41'+
+        5 at record 3 before 6 at record 2: 36=0 45'+
+        6 before 7: 36=0 38=0 39=0
+        7 before 8: 38=0 39=1 46'0
+        8 at couple 3 before 9 at couple 0: 42'1 46'0
+        9 before 11: 32=0 43'0
+        10 before 11: 32=0 43'0 46'0
+        11 before 12: 32=0 42'0 44'0
+        ",
+    );
     let mut table = [7u8; 7];
     let mut words = [7u16; 4];
     lent(
@@ -129,13 +150,42 @@ pub(crate) fn order() {
     );
 }
 
-// The lamp with bytes changed: the changes are pairs, a place and the byte there.
+// The lamp with bytes changed, a row to a line: its name, a colon, then the changes as `changes` reads them.
+fn lamps(rows: &[u8]) {
+    let mut at: usize = 0;
+    while at < rows.len() {
+        let stop = at + before(&rows[at..rows.len()], b'\n');
+        row(&rows[at..stop]);
+        at = stop + 1;
+    }
+}
+
+// A line with no colon is no row.
+fn row(line: &[u8]) {
+    let colon = before(line, b':');
+    if colon < line.len() {
+        let start = blanks(&line[0..colon]);
+        lamp(&line[start..colon], &line[colon..line.len()]);
+    }
+}
+
 fn lamp(what: &[u8], changes: &[u8]) {
+    lamp_into(what, changes, 5, 3);
+}
+
+// Into so many bytes for the table, at most 5, and so many words, at most 3.
+fn lamp_into(what: &[u8], changes: &[u8], bytes: usize, count: usize) {
     let mut file = lamp_file();
     change(&mut file, changes);
     let mut table = [7u8; 5];
     let mut words = [7u16; 3];
-    lent(what, &file, &mut table, &mut words);
+    if table.len() < bytes {
+        return;
+    }
+    if words.len() < count {
+        return;
+    }
+    lent(what, &file, &mut table[0..bytes], &mut words[0..count]);
 }
 
 pub(crate) fn lamp_file() -> [u8; LAMP]
@@ -144,37 +194,18 @@ pub(crate) fn lamp_file() -> [u8; LAMP]
     *b"SEQ1\x04\x01\x19\x00\x04\x00\x02\x1d\x00\x06\x00\x03\x23\x00\x06\x00\x04\x29\x00\x06\x00\x01\x01\x02\x00\x00\x00\x02\x01\x00\x01\x00\x01\x01\x01\x00\x02!aaa!a"
 }
 
-fn change(file: &mut [u8], changes: &[u8])
-    ensures { λ _. ⌜ length (now (file .exit)) ≡ length (now (file .entry)) ⌝ }
-{
-    let pairs = changes.len() / 2;
-    for i in 0..pairs {
-        put(file, wide(changes[2 * i]), changes[2 * i + 1]);
-    }
-}
-
-// Puts a byte where the file has this place.
-pub(crate) fn put(file: &mut [u8], at: usize, byte: u8)
-    ensures { λ _. ⌜ length (now (file .exit)) ≡ length (now (file .entry)) ⌝ }
-{
-    if at < file.len() {
-        file[at] = byte;
-    }
-}
-
 fn lent(what: &[u8], file: &[u8], table: &mut [u8], words: &mut [u16]) {
     let contents = specification::read_here(file, table, words);
-    name(what);
-    told(contents);
+    told(what, contents);
     bytes(table);
     values(words);
     end();
 }
 
-// The answer, and the sizes.
-pub(crate) fn told(contents: Contents) {
+// The name of a row, the answer, and the sizes.
+pub(crate) fn told(what: &[u8], contents: Contents) {
     let frame = contents.frame;
-    answer(contents.answer);
+    answer(what, contents.answer);
     word(b"|");
     number(frame.inputs as u64);
     number(contents.outputs as u64);

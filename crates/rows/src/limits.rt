@@ -1,11 +1,10 @@
 // Files at the limits and one beyond: number and place, then the five sizes.
 ghost use mathlib.Core.Path.{_≡_};
 ghost use lib.ListN.{length};
+use crate::changes::put;
 use crate::lamps::lamp_file;
-use crate::lamps::put;
 use crate::lamps::told;
 use crate::lines::end;
-use crate::lines::name;
 use machine::COUPLES;
 use machine::STATES;
 use specification::BYTES;
@@ -26,8 +25,7 @@ pub(crate) fn fewest() {
     );
 }
 
-// The lamp with seven inputs more; then states and evolutions with empty conditions, which pass 2 and are refused by 5; then a kind 4
-// that no conditions fill, which passes 1 and is refused by 2.
+// The lamp with seven inputs more; then states and evolutions with empty conditions, which pass 2 and are refused by 5.
 pub(crate) fn most() {
     let mut file = lamp_file();
     put(&mut file, 25, 8);
@@ -47,6 +45,10 @@ pub(crate) fn most() {
         b"SEQ1\x04\x01\x19\x00\x04\x00\x02\x1d\x00\x63\x00\x03\x80\x00\xa0\x0b\x04\x20\x0c\x00\x00\x01\x01\x21\x00",
         3104,
     );
+}
+
+// A kind 4 that no conditions fill, which passes 1 and is refused by 2.
+pub(crate) fn longest() {
     zeros(
         b"65535 bytes",
         b"SEQ1\x04\x01\x19\x00\x04\x00\x02\x1d\x00\x03\x00\x03\x20\x00\x00\x00\x04\x20\x00\xdf\xff\x01\x01\x01\x00",
@@ -79,7 +81,6 @@ fn copy(contents: &[u8], file: &mut [u8])
 fn read(what: &[u8], file: &[u8]) {
     let mut table = [7u8; COUPLES];
     let mut words = [7u16; STATES];
-    name(what);
-    told(specification::read_here(file, &mut table, &mut words));
+    told(what, specification::read_here(file, &mut table, &mut words));
     end();
 }

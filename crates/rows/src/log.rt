@@ -12,25 +12,34 @@ use bench::Stepped;
 
 pub(crate) fn rows() {
     filled();
-    words();
-    refusals();
+    equal_words();
+    last_output();
+    unsound();
+    most_readings();
 }
 
 // Differences up to and past the 32nd, and the first and the last entry that 40 of them leave.
 fn filled() {
-    row(b"difference 1", differences(1));
-    row(b"difference 32", differences(32));
-    row(b"difference 33", differences(33));
+    difference(1);
+    difference(32);
+    difference(33);
+    difference(40);
     let noted = differences(40);
-    row(b"difference 40", noted);
     let log = noted.log;
     let entries = log.entries;
     entry(b"first entry", entries[0]);
     entry(b"last entry", entries[ENTRIES - 1]);
 }
 
-// Equal words, on a fresh log and on a full one; and words that differ in the last output alone, stored as given.
-fn words() {
+fn difference(count: u16) {
+    let noted = differences(count);
+    name(b"difference");
+    number(count as u64);
+    told(noted);
+}
+
+// Equal words, on a fresh log and on a full one.
+fn equal_words() {
     row(
         b"equal words",
         bench::updated(bench::fresh(), 1, 0, false, 65535, 65535),
@@ -40,6 +49,10 @@ fn words() {
         b"equal words, log full",
         bench::updated(full.log, 2, 0, false, 3, 3),
     );
+}
+
+// Words that differ in the last output alone, stored as given.
+fn last_output() {
     let noted = bench::updated(bench::fresh(), 65535, 65534, true, 0, 32768);
     row(b"last output differs", noted);
     let log = noted.log;
@@ -47,19 +60,20 @@ fn words() {
     entry(b"its entry", entries[0]);
 }
 
-// Logs that are not sound, and readings at their most.
-fn refusals() {
-    let full = differences(40);
-    let sound = full.log;
-    refusal(b"kept 31 of 40", with_counts(sound, 40, 40, 31), 1);
-    refusal(b"kept 33 of 40", with_counts(sound, 40, 40, 33), 1);
-    refusal(b"kept 5 of 6", with_counts(sound, 6, 6, 5), 1);
-    refusal(b"differing 41 of 40", with_counts(sound, 40, 41, 32), 1);
-    let last = with_counts(sound, READINGS - 1, 40, 32);
+// Logs that are not sound.
+fn unsound() {
+    refusal(b"kept 31 of 40", 40, 40, 31, 1);
+    refusal(b"kept 33 of 40", 40, 40, 33, 1);
+    refusal(b"kept 5 of 6", 6, 6, 5, 1);
+    refusal(b"differing 41 of 40", 40, 41, 32, 1);
+}
+
+// Readings one short of their most, and at it.
+fn most_readings() {
+    let last = with_counts(READINGS - 1, 40, 32);
     row(b"last reading", bench::updated(last, 3, 1, false, 0, 1));
-    let spent = with_counts(sound, READINGS, 40, 32);
-    refusal(b"readings at their most", spent, 1);
-    refusal(b"the same, equal words", spent, 0);
+    refusal(b"readings at their most", READINGS, 40, 32, 1);
+    refusal(b"the same, equal words", READINGS, 40, 32, 0);
 }
 
 // The log after so many differences, at changes 1, 2 and so on of run 1, and what the last one answered.
@@ -77,17 +91,19 @@ fn differences(count: u16) -> Stepped {
     noted
 }
 
-// The log with other counts.
-fn with_counts(log: Log, readings: u32, differing: u32, kept: u32) -> Log {
-    let mut other = log;
+// The log that 40 differences leave, with other counts.
+fn with_counts(readings: u32, differing: u32, kept: u32) -> Log {
+    let noted = differences(40);
+    let mut other = noted.log;
     other.readings = readings;
     other.differing = differing;
     other.kept = kept;
     other
 }
 
-// A reading of this log, where 0 is expected, and whether it left the log as it was.
-fn refusal(what: &[u8], log: Log, seen: u16) {
+// A reading of the log with these counts, where 0 is expected, and whether it left the log as it was.
+fn refusal(what: &[u8], readings: u32, differing: u32, kept: u32, seen: u16) {
+    let log = with_counts(readings, differing, kept);
     let noted = bench::updated(log, 3, 1, false, 0, seen);
     let answer = noted.answer;
     let after = noted.log;
@@ -102,9 +118,13 @@ fn refusal(what: &[u8], log: Log, seen: u16) {
 }
 
 fn row(what: &[u8], noted: Stepped) {
+    name(what);
+    told(noted);
+}
+
+fn told(noted: Stepped) {
     let answer = noted.answer;
     let log = noted.log;
-    name(what);
     said(answer);
     number(log.readings as u64);
     number(log.differing as u64);

@@ -1,38 +1,41 @@
 // The example rows of document 01 that are not starred, the tables that were published, and files of each refusal, one line a row: a
 // short name of the row, then its numbers.
+mod changes;
 mod conditions;
-mod evolutions;
 mod lamps;
 mod limits;
 mod lines;
 mod log;
+mod plans;
 mod ranks;
-mod runs;
+mod records;
 
 fn main() {
+    files();
+    log::rows();
+    tables();
+    plans::lamp_plan();
+    plans::gate_runs();
+    plans::expected_readings();
+    plans::wrong_changes();
+}
+
+// Conditions and reading a file.
+fn files() {
     conditions::unread();
     conditions::letters();
     conditions::parentheses();
-    files();
-    evolutions::rows();
-    log::rows();
-    ranks::gate();
-    ranks::table_iv();
-    ranks::refusals();
-    runs::lamp_plan();
-    runs::gate_runs();
-    runs::expected_readings();
-}
-
-// Reading a file.
-fn files() {
-    lamps::whole();
-    lamps::contents();
-    lamps::sizes();
-    lamps::room();
-    lamps::records();
-    lamps::rules();
-    lamps::order();
+    lamps::rows();
     limits::fewest();
     limits::most();
+    limits::longest();
+    records::rows();
+}
+
+// Marking.
+fn tables() {
+    ranks::gate();
+    ranks::table_iv();
+    ranks::wrong_sizes();
+    ranks::wrong_tables();
 }

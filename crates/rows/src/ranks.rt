@@ -1,12 +1,15 @@
 // The rows about marking: the ranks a line a state, as the published tables have them, then the counts.
 ghost use mathlib.Core.Path.{_≡_};
-ghost use Prim.Native.Nat.{_≤_};
 ghost use lib.ListN.{length};
 use crate::lines::answer;
+use crate::lines::answered;
+use crate::lines::count;
+use crate::lines::counts;
 use crate::lines::end;
 use crate::lines::name;
 use crate::lines::number;
-use crate::lines::values;
+use crate::lines::parts;
+use crate::lines::places;
 use crate::lines::word;
 use machine::Frame;
 use machine::UNMARKED;
@@ -39,15 +42,7 @@ pub(crate) fn gate_table() -> [u8; 48]
 pub(crate) fn gate() {
     let table = gate_table();
     let mut ranks = [7u16; 48];
-    let marked = marking::mark(gate_frame(), &table, &mut ranks);
-    name(b"gate");
-    answer(marked);
-    end();
-    state(b"gate state 0", &ranks[0..16]);
-    state(b"gate state 1", &ranks[16..32]);
-    state(b"gate state 2", &ranks[32..48]);
-    counts(b"gate marked couples", &ranks, 3);
-    unmarked(b"gate unmarked", &ranks);
+    published(b"gate", gate_frame(), &table, &mut ranks, 3);
 }
 
 // The moves of source document 001, table IV, in the order of our settings.
@@ -66,29 +61,27 @@ pub(crate) fn table_iv() {
         states: 5,
         initial: 0,
     };
-    let marked = marking::mark(frame, &table, &mut ranks);
-    name(b"table IV");
-    answer(marked);
-    end();
-    state(b"table IV state 0", &ranks[0..8]);
-    state(b"table IV state 1", &ranks[8..16]);
-    state(b"table IV state 2", &ranks[16..24]);
-    state(b"table IV state 3", &ranks[24..32]);
-    state(b"table IV state 4", &ranks[32..40]);
-    counts(b"table IV marked couples", &ranks, 5);
-    unmarked(b"table IV unmarked", &ranks);
+    published(b"table IV", frame, &table, &mut ranks, 5);
 }
 
-fn state(what: &[u8], ranks: &[u16]) {
-    name(what);
-    values(ranks);
+// The answer, the ranks of each state, how often each rank occurs up to the highest, and the couples without one.
+fn published(what: &[u8], frame: Frame, table: &[u8], ranks: &mut [u16], highest: u16) {
+    let told = marking::mark(frame, table, ranks);
+    answer(what, told);
     end();
+    parts(what, b"state", ranks, machine::settings(frame.inputs));
+    marked(what, ranks, highest);
+    unmarked(what, ranks);
 }
 
-// Tables of the lamp's size that are refused: the answer, then what the ranks hold, 7 before.
-pub(crate) fn refusals() {
+// Sizes that are refused: the answer, then what the ranks hold, 7 before.
+pub(crate) fn wrong_sizes() {
     refused(b"marking, initial 2 of 2", 2, b"\x00\x01\x00\x01");
     refused(b"marking, table of 3", 0, b"\x00\x01\x00");
+}
+
+// Tables of the lamp's size that are refused, likewise.
+pub(crate) fn wrong_tables() {
     refused(b"marking, move to 2 of 2", 0, b"\x00\x01\x00\x02");
     refused(b"marking, transient", 0, b"\x00\x01\x00\x00");
     refused(b"marking, no start", 0, b"\x01\x01\x01\x01");
@@ -96,56 +89,24 @@ pub(crate) fn refusals() {
 
 fn refused(what: &[u8], initial: usize, table: &[u8]) {
     let mut ranks = [7u16; 5];
-    let marked = marking::mark(lamp_frame(initial), table, &mut ranks);
-    name(what);
-    answer(marked);
-    values(&ranks);
-    end();
+    let told = marking::mark(lamp_frame(initial), table, &mut ranks);
+    answered(what, told, &ranks);
 }
 
 // How many couples are marked, how many there are, and how many have rank 0, 1 and so on to the highest.
-fn counts(what: &[u8], ranks: &[u16], highest: u16) {
+fn marked(what: &[u8], ranks: &[u16], highest: u16) {
     name(what);
-    word(b"|");
+    word(b"marked couples |");
     number((ranks.len() - count(ranks, UNMARKED)) as u64);
     number(ranks.len() as u64);
-    word(b"|");
-    for rank in 0..highest {
-        number(count(ranks, rank) as u64);
-    }
-    number(count(ranks, highest) as u64);
+    counts(ranks, highest);
     end();
-}
-
-// How many couples have this rank.
-fn count(ranks: &[u16], rank: u16) -> usize
-    ensures { λ r. ⌜ r ≤ length (now (ranks .entry)) ⌝ }
-{
-    let mut count: usize = 0;
-    for c in 0..ranks.len() {
-        count += one_where(ranks[c], rank);
-    }
-    count
-}
-
-// 1 where the two ranks are the same, else 0.
-fn one_where(a: u16, b: u16) -> usize
-    ensures { λ r. ⌜ r ≤ 1 ⌝ }
-{
-    if a == b {
-        return 1;
-    }
-    0
 }
 
 // The couples that no run visits.
 fn unmarked(what: &[u8], ranks: &[u16]) {
     name(what);
-    word(b"|");
-    for c in 0..ranks.len() {
-        if ranks[c] == UNMARKED {
-            number(c as u64);
-        }
-    }
+    word(b"unmarked");
+    places(ranks, UNMARKED);
     end();
 }

@@ -13,7 +13,7 @@ use Rattle.verdict.proofs.Tests.{decides-map, decides-not}
 use Rattle.machine.specs.Runs.{Machine, size, move, Starts, Changes, Fault}
 use Rattle.machine.specs.Runs.Fault.{empty, no-start, no-change}
 use Rattle.tables.specs.Tables.{Tabled}
-use Rattle.tables.proofs.Gate.{couples-few}
+use Rattle.machine.proofs.Sizes.{couples-few}
 use Rattle.runs.specs.Faults.{faultChecks}
 
 suc-pred : (i : ℕ) → suc i - 1 ≡ i

@@ -11,7 +11,7 @@ ghost use Rattle.runs.specs.Faults.{faultChecks};
 use crate::stored::setting;
 use basics::wide;
 use machine::Frame;
-use tables::settings;
+use machine::settings;
 use tables::tabled;
 use verdict::Answer;
 use verdict::Found;

@@ -11,7 +11,7 @@ use Rattle.verdict.proofs.Order.{judged-done, same-answer}
 use Rattle.machine.specs.Limits.{mostInputs, mostStates, mostCouples}
 use Rattle.machine.specs.Runs.{machineOf}
 use Rattle.machine.specs.declared.Frame.{Frame}
-use Rattle.tables.proofs.Gate.{couples-few}
+use Rattle.machine.proofs.Sizes.{couples-few}
 use Rattle.specification.specs.Limits.{mostEvolutions}
 use Rattle.specification.specs.Records.{sizesOf, frameOf, settings, couples}
 use Rattle.specification.specs.Rules.{MoveAt, TableOf}

@@ -15,7 +15,7 @@ use Rattle.machine.specs.Limits.{mostCouples}
 use Rattle.machine.specs.Runs.{Machine, couples, Sound, RankOrUnmarked, RanksOf}
 use Rattle.machine.proofs.Soundness.{sound-states, sound-calm}
 use Rattle.tables.specs.Tables.{Tabled}
-use Rattle.tables.proofs.Gate.{couples-few}
+use Rattle.machine.proofs.Sizes.{couples-few}
 use Rattle.marking.specs.Marking.{markChecks}
 use Rattle.marking.proofs.Once.{rank-only}
 use Rattle.plan.specs.Planning.{PlanBytes, ShortPlan, planChecks, PlanDone, PlannedAs}

@@ -88,7 +88,7 @@ fn write_sheet(file: &[u8], text: &mut [u8]) -> usize
         return write_refusal(answer, text);
     }
     let frame = contents.frame;
-    let couples = frame.states * tables::settings(frame.inputs);
+    let couples = frame.states * machine::settings(frame.inputs);
     write_plan(frame, &table[0..couples], text)
 }
 

@@ -11,13 +11,14 @@ use lib.Pow.{pow-pos}
 use Rattle.verdict.specs.Checks.{Passed, Judged}
 use Rattle.verdict.specs.declared.Answer.{Answer}
 use Rattle.verdict.proofs.Order.{Passes, judged-passes, roomy}
+use Rattle.machine.specs.Limits.{Sized as TableSized}
 use Rattle.machine.specs.Runs.{machineOf}
 use Rattle.machine.proofs.Couples.{couple-of, couple-below}
 use Rattle.machine.proofs.Same.{transient-into}
+use Rattle.machine.proofs.Sizes.{sizes}
 use Rattle.machine.proofs.Soundness.{sound-machine}
-use Rattle.tables.specs.Tables.{Sized as TableSized, startChecks}
+use Rattle.tables.specs.Tables.{startChecks}
 use Rattle.tables.specs.inner.Fits.{Checked}
-use Rattle.tables.proofs.Gate.{sizes}
 use Rattle.specification.specs.Records.{sizesOf, frameOf, settings, couples}
 use Rattle.specification.specs.Rules.{MoveAt, TableOf}
 use Rattle.specification.specs.Reading.{fileChecks, ReadHere}

@@ -8,9 +8,9 @@ use mathlib.Core.Bool.{Bool}
 use mathlib.Core.List.{List, _++_}
 use lib.ListN.{length, getD, drop, set, length-append, length-drop}
 use lib.Seq.{drop-cons, set-at, append-snoc}
-use Rattle.specification.specs.Evolutions.{blank}
+use Rattle.evolutions.specs.Evolutions.{blank}
+use Rattle.evolutions.specs.declared.Evolution.{Evolution}
 use Rattle.specification.specs.inner.Filling.{placeOf, filledOf, filling}
-use Rattle.specification.specs.declared.Evolution.{Evolution}
 
 module _ (f : List ℕ) (from text : ℕ) where
   -- places only grow

@@ -7,13 +7,14 @@ use mathlib.Core.Path.{_≡_, refl, sym, ap, ap₂, subst, _∙_}
 use mathlib.Core.Bool.{Bool, true, false}
 use mathlib.Core.List.{List, [], _∷_, _++_}
 use lib.ListN.{length, getD, drop, replicate, replicate-append-replicate}
+use Rattle.evolutions.specs.Evolutions.{blank}
+use Rattle.evolutions.specs.declared.Evolution.{Evolution}
 use Rattle.specification.specs.Records.{sumTo, recordAt, source, textLength, sizesOf}
 use Rattle.specification.specs.Rules.{textAt}
-use Rattle.specification.specs.Evolutions.{evolutionOf, evolutions, blank}
+use Rattle.specification.specs.Evolutions.{evolutionOf, evolutions}
 use Rattle.specification.specs.inner.Filling.{placeOf, filledOf, filling, Fillable}
 use Rattle.specification.specs.Reading.{ReadAs}
 use Rattle.specification.specs.inner.Private.{Laid, CoreAs}
-use Rattle.specification.specs.declared.Evolution.{Evolution}
 use Rattle.specification.specs.declared.records.Sizes.{Sizes}
 use Rattle.specification.specs.declared.reading.Core.{Core}
 use Rattle.specification.proofs.Laws.{sum-more}

@@ -5,8 +5,6 @@ pub mod Settling
 pub mod Outcomes
 pub mod Filling
 pub mod HandOn
-pub mod Walking
-pub mod Rows
 pub mod Once
 pub mod Refusals
 pub mod Meanings

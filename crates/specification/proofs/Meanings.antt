@@ -14,13 +14,15 @@ use lib.Arith.{digits-lt}
 use Rattle.verdict.specs.Checks.{Decides}
 use Rattle.verdict.proofs.Order.{judged-passes}
 use Rattle.verdict.proofs.Tests.{decides-map}
+use Rattle.condition.specs.Condition.{Holds}
+use Rattle.evolutions.specs.Evolutions.{blank, Met}
+use Rattle.evolutions.specs.declared.Evolution.{Evolution}
 use Rattle.machine.specs.Couples.{coupleAt, Couple}
 use Rattle.specification.specs.Records.{sizesOf, settings, records, textLength}
-use Rattle.specification.specs.Rules.{textAt, textOf, Holds, OneRule}
-use Rattle.specification.specs.Evolutions.{evolutionOf, evolutions, blank, Met}
+use Rattle.specification.specs.Rules.{textAt, textOf, OneRule}
+use Rattle.specification.specs.Evolutions.{evolutionOf, evolutions}
 use Rattle.specification.specs.Reading.{ReadHere, ReadAs}
 use Rattle.specification.specs.declared.Contents.{Contents}
-use Rattle.specification.specs.declared.Evolution.{Evolution}
 use Rattle.specification.specs.declared.records.Sizes.{Sizes}
 use Rattle.specification.proofs.Laws.{sum-below, laid}
 use Rattle.specification.proofs.Once.{no-two-rules}

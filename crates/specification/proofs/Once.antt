@@ -1,25 +1,23 @@
 -- Each promise of this crate leaves one outcome: the answer and every element of each lent buffer. The verdict of a list of checks is
 -- one; the sizes follow from it; and where a file is read no two rules hold, so that each couple has one move.
 use mathlib.Core.Path.{_≡_, refl, sym, ap, _∙_}
-use mathlib.Core.Bool.{Bool}
 use mathlib.Core.List.{List}
 use mathlib.Core.Logic.{_⊎_, ⊎-elim}
 use Prim.Native.Nat.{ℕ, _≤_, _<_}
 use native.Mathlib.Omega.{arith}
 use native.Mathlib.Decide.{decLt, ℕ-discrete}
 use lib.Pow.{pow-pos}
-use Rattle.verdict.specs.Checks.{Decides, None}
+use Rattle.verdict.specs.Checks.{None}
 use Rattle.verdict.specs.declared.Answer.{Answer}
 use Rattle.verdict.proofs.Order.{judged-unique, judged-number, judged-passes}
 use Rattle.verdict.proofs.Fills.{left-unique}
-use Rattle.verdict.proofs.Tests.{decides-unique}
+use Rattle.evolutions.specs.declared.Evolution.{Evolution}
 use Rattle.machine.proofs.Couples.{couple-of}
 use Rattle.specification.specs.Records.{sizesOf, settings, couples}
 use Rattle.specification.specs.Rules.{TwoRules, MoveAt}
-use Rattle.specification.specs.Evolutions.{Handed, Met}
+use Rattle.specification.specs.Evolutions.{Handed}
 use Rattle.specification.specs.Reading.{refusalOf, contentsOf, ReadHere, ReadAs}
 use Rattle.specification.specs.declared.Contents.{Contents}
-use Rattle.specification.specs.declared.Evolution.{Evolution}
 use Rattle.specification.specs.declared.records.Sizes.{Sizes}
 use Rattle.specification.proofs.Settling.{same-move}
 
@@ -68,7 +66,3 @@ handed-once {number} {b = b} {d = d} f g = by (decLt number 1) (decLt number 4)
 pub only : {file table words : List ℕ} {a : List Evolution} {r q : Contents} {t t′ w w′ : List ℕ} {b d : List Evolution} → ReadAs file table words a r t w b → ReadAs file table words a q t′ w′ d
     → (r ≡ q) × (t ≡ t′) × (w ≡ w′) × (b ≡ d)
 only u v = let k = only-here (u .here) (v .here) in (k .0, k .1, k .2, handed-once (u .records) (rw (sym (same-number (u .here) (v .here))) at (v .records)))
-
--- the promise of `evolution_holds`
-pub only-holds : (file : List ℕ) (e : Evolution) (inputs v : ℕ) (r q : Bool) → Decides (Met file e inputs v) r → Decides (Met file e inputs v) q → r ≡ q
-only-holds file e inputs v r q = decides-unique (Met file e inputs v) r q

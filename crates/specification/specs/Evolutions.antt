@@ -2,10 +2,11 @@
 use mathlib.Core.Path.{_≡_}
 use mathlib.Core.List.{List, [], _∷_, _++_}
 use Prim.Native.Nat.{ℕ, zero, suc, _+_, _≤_}
-use lib.ListN.{length, take, drop, replicate}
+use lib.ListN.{drop, replicate}
+use Rattle.evolutions.specs.Evolutions.{blank}
+use Rattle.evolutions.specs.declared.Evolution.{Evolution}
 use Rattle.specification.specs.Records.{source, target, textLength}
-use Rattle.specification.specs.Rules.{textAt, Holds}
-use Rattle.specification.specs.declared.Evolution.{Evolution}
+use Rattle.specification.specs.Rules.{textAt}
 use Rattle.specification.specs.declared.records.Sizes.{Sizes}
 
 -- evolution e: source, target, place in the file and length of its condition
@@ -19,18 +20,9 @@ unfoldable pub evolutions : List ℕ → Sizes → ℕ → List Evolution
 evolutions file z zero = []
 evolutions file z (suc n) = evolutions file z n ++ evolutionOf file z n ∷ []
 
--- a record that is all zero
-abbrev pub blank : Evolution
-blank = record { source = 0; target = 0; at = 0; length = 0 }
-
 -- What reading leaves in the records a, by the number it answers: after 1 to 3 nothing changes; after 4 to 13 the needed records are
 -- zero; on success they are the evolutions. Those beyond never change.
 pub record Handed (number : ℕ) (file : List ℕ) (z : Sizes) (a b : List Evolution) : Type 0 where
   pub unchanged : 1 ≤ number → number ≤ 3 → b ≡ a
   pub blanked : 4 ≤ number → b ≡ replicate (z .evolutions) blank ++ drop (z .evolutions) a
   pub filled : number ≡ 0 → b ≡ evolutions file z (z .evolutions) ++ drop (z .evolutions) a
-
--- the condition of an evolution's record, within the file, holds at the setting v
-pub record Met (file : List ℕ) (e : Evolution) (inputs v : ℕ) : Type 0 where
-  pub inside : e .at + e .length ≤ length file
-  pub holds : Holds inputs v (take (e .length) (drop (e .at) file))

@@ -7,13 +7,13 @@ use lib.ListN.{length}
 use Rattle.verdict.specs.Checks.{Check, check, Unless, Short, Passed, Judged}
 use Rattle.verdict.specs.Buffers.{Left}
 use Rattle.verdict.specs.declared.Answer.{Answer}
+use Rattle.evolutions.specs.declared.Evolution.{Evolution}
 use Rattle.machine.specs.Moves.{Transient, SameWord, Unreached, Start}
 use Rattle.specification.specs.Limits.{blankMove, blankWord}
 use Rattle.specification.specs.File.{WellFormed}
 use Rattle.specification.specs.Records.{sizesOf, frameOf, settings, couples, word, Sized, Beyond, Own, Twice}
 use Rattle.specification.specs.Rules.{Unreads, TwoRules, NoRule, Moves, MoveAt, MayStart}
 use Rattle.specification.specs.Evolutions.{Handed}
-use Rattle.specification.specs.declared.Evolution.{Evolution}
 use Rattle.specification.specs.declared.Contents.{Contents}
 use Rattle.specification.specs.declared.records.Sizes.{Sizes}
 

@@ -1,12 +1,11 @@
 -- Rules and moves (document 01, "Moves and soundness"): refusals 5, 8 and 9, and the table. Assumes nothing: these are definitions.
 use mathlib.Core.Path.{_≡_}
-use mathlib.Core.Bool.{true, cond}
+use mathlib.Core.Bool.{cond}
 use mathlib.Core.List.{List}
 use Prim.Native.Nat.{ℕ, _+_, _<_}
 use lib.ListN.{length, getD, take, drop}
 use lib.Dec.{ltb}
-use Rattle.condition.specs.Grammar.{holds}
-use Rattle.condition.specs.Condition.{Reads}
+use Rattle.condition.specs.Condition.{Reads, Holds}
 use Rattle.machine.specs.Couples.{Couple}
 use Rattle.specification.specs.Records.{sumTo, sizesOf, settings, couples, records, recordAt, source, target, textLength}
 use Rattle.specification.specs.declared.records.Sizes.{Sizes}
@@ -25,11 +24,6 @@ textOf file z r = take (textLength file z r) (drop (textAt file z r) file)
 pub record Unreads (file : List ℕ) (z : Sizes) (r : ℕ) : Type 0 where
   pub below : r < records z
   pub unread : Reads (z .inputs) (textOf file z r) → ⊥
-
--- a text is that of a condition which holds at the setting v
-pub record Holds (inputs v : ℕ) (text : List ℕ) : Type 0 where
-  pub reads : Reads inputs text
-  pub true-there : holds v (reads .tree) ≡ true
 
 -- each record is a rule of one state and leads to one: a state's rest condition of itself to itself, an evolution of its source to its
 -- target

@@ -1,14 +1,13 @@
-// The evolutions handed on: the lent records are filled, and one is taken out.
+// The evolutions handed on: the lent records are filled.
 ghost use mathlib.Core.Path.{_≡_};
 ghost use mathlib.Core.List.{_++_};
 ghost use Prim.Native.Nat.{_+_, _*_, _≤_, _<_};
-ghost use lib.ListN.{length, getD, drop};
+ghost use lib.ListN.{length, drop};
 ghost use Rattle.specification.specs.Limits.{mostBytes};
-ghost use Rattle.specification.specs.Evolutions.{blank};
 ghost use Rattle.specification.specs.inner.Filling.{nextOf, filling, Fillable};
-use crate::Evolution;
 use basics::narrow;
 use basics::wide;
+use evolutions::Evolution;
 
 // A record, and where the text of the next one starts.
 struct Next {
@@ -63,21 +62,5 @@ pub(crate) fn fill(
         records[i] = n.e;
         at = n.at;
         i += 1;
-    }
-}
-
-// Record i; a zero one past the end.
-pub(crate) fn take_out(records: &[Evolution], i: usize) -> Evolution
-    ensures { λ r. ⌜ r ≡ getD (now (records .entry)) i blank ⌝ }
-{
-    if i < records.len() {
-        records[i]
-    } else {
-        Evolution {
-            source: 0,
-            target: 0,
-            at: 0,
-            length: 0,
-        }
     }
 }

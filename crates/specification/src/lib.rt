@@ -1,8 +1,5 @@
 // Reading a specification file (document 01): its checks, its table of moves, its output words, and its evolutions as records.
-ghost use lib.ListN.{getD};
-ghost use Rattle.verdict.specs.Checks.{Decides};
 ghost use Rattle.specification.specs.Limits.{mostEvolutions};
-ghost use Rattle.specification.specs.Evolutions.{blank, Met};
 ghost use Rattle.specification.specs.Reading.{ReadHere, ReadAs};
 
 mod file;
@@ -12,9 +9,8 @@ mod records;
 mod rules;
 
 use crate::handing::fill;
-use crate::handing::take_out;
 use crate::reading::read_core;
-use crate::rules::met;
+use evolutions::Evolution;
 use machine::Frame;
 use verdict::Answer;
 
@@ -26,15 +22,6 @@ pub const EVOLUTIONS: usize = 992;
 
 // The most bytes of a file.
 pub const BYTES: usize = 65535;
-
-// An evolution: its source and target, the place in the file and the length of its condition.
-#[repr(C)]
-pub struct Evolution {
-    pub source: u8,
-    pub target: u8,
-    pub at: u16,
-    pub length: u8,
-}
 
 // The answer, and the sizes of the file, all zero on refusal; the frame goes to the table jobs as it is.
 #[repr(C)]
@@ -60,18 +47,4 @@ pub fn read_here(file: &[u8], table: &mut [u8], words: &mut [u16]) -> Contents
 {
     let core = read_core(file, table, words, EVOLUTIONS);
     core.contents
-}
-
-// Whether the condition of evolution e of a file that was read holds at the setting; beyond the records none does.
-pub fn evolution_holds(
-    records: &[Evolution],
-    e: usize,
-    file: &[u8],
-    inputs: usize,
-    setting: usize,
-) -> bool
-    ensures { λ r. ⌜ Decides (Met (now (file .entry)) (getD (now (records .entry)) e blank) inputs setting) r ⌝ }
-{
-    let evolution = take_out(records, e);
-    met(file, evolution, inputs, setting)
 }

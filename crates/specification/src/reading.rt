@@ -31,11 +31,11 @@ use crate::rules::next_rules;
 use crate::rules::starts_of;
 use basics::narrow;
 use machine::Frame;
-use tables::Room;
-use tables::check_rooms;
 use tables::check_sound;
 use verdict::Answer;
 use verdict::Found;
+use verdict::Room;
+use verdict::check_rooms;
 
 // What the words hold after a refusal.
 const BLANK_WORD: u16 = 65535;
@@ -161,7 +161,7 @@ fn settle(file: &[u8], z: Sizes, table: &mut [u8], words: &mut [u16]) -> Answer
     }
     fill_words(file, z, words);
     let next = next_rules(file, z);
-    let m = tables::settings(z.inputs);
+    let m = machine::settings(z.inputs);
     if let Found::At(p) = fill_moves(file, z, &starts, &next, m, table) {
         return Answer {
             number: 8,

@@ -15,7 +15,7 @@ use crate::file::two_at;
 use basics::wide;
 use machine::INPUTS;
 use machine::STATES;
-use tables::settings;
+use machine::settings;
 use verdict::Found;
 
 // The sizes of a file, and where its records begin.

@@ -5,22 +5,18 @@ ghost use lib.ListN.{length};
 ghost use mathlib.Core.List.{[], _∷_};
 ghost use Rattle.verdict.specs.Checks.{check, Decides, Finds, Judged, Passed};
 ghost use Rattle.verdict.specs.Buffers.{Filled};
-ghost use Rattle.condition.specs.Condition.{Says};
+ghost use Rattle.condition.specs.Condition.{Says, Holds};
 ghost use Rattle.machine.specs.Limits.{mostSettings};
 ghost use Rattle.specification.specs.Records.{records};
-ghost use Rattle.specification.specs.Rules.{textOf, Holds, Unreads, ruleOf, leadsTo, TwoRules};
-ghost use Rattle.specification.specs.Evolutions.{Met};
+ghost use Rattle.specification.specs.Rules.{textOf, Unreads, ruleOf, leadsTo, TwoRules};
 ghost use Rattle.specification.specs.inner.Private.{Laid, Placed, Follows, Linked, Noted};
 use crate::EVOLUTIONS;
-use crate::Evolution;
 use crate::records::Sizes;
 use crate::records::record_at;
 use crate::records::source;
 use crate::records::target;
 use crate::records::text_length;
 use basics::byte;
-use basics::long;
-use basics::wide;
 use condition::Meaning;
 use machine::STATES;
 use verdict::Answer;
@@ -173,19 +169,4 @@ pub(crate) fn fill_moves(
         }
     }
     found
-}
-
-// Whether the condition of an evolution's record, within the file, holds at the setting.
-pub(crate) fn met(file: &[u8], e: Evolution, inputs: usize, setting: usize) -> bool
-    ensures { λ r. ⌜ Decides (Met (now (file .entry)) e inputs setting) r ⌝ }
-{
-    let at = long(e.at);
-    let end = at + wide(e.length);
-    if file.len() < end {
-        return false;
-    }
-    let Meaning::Is(b) = condition::read(&file[at..end], inputs, setting) else {
-        return false;
-    };
-    b
 }

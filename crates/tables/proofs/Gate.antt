@@ -1,56 +1,33 @@
--- What a table that passed its checks has: an order of numbers that is not refuted holds, and a table without refusals 4 and 10 makes a
--- sound machine. Back, a sound machine with a long table passes.
-use mathlib.Core.Path.{_≡_, refl, ap, subst}
-use mathlib.Core.Logic.{⊎-elim}
+-- What a table that passed its checks has: sizes within their ranges, and without refusals 4 and 10 it makes a sound machine. Back, a
+-- sound machine with a long table passes.
+use mathlib.Core.Path.{_≡_, refl, subst}
 use mathlib.Core.List.{List}
-use Prim.Native.Nat.{ℕ, _*_, _^_, _≤_, _<_}
-use native.Mathlib.Omega.{arith}
+use Prim.Native.Nat.{ℕ, _*_, _^_, _≤_}
 use lib.ListN.{length}
-use Rattle.verdict.specs.Checks.{None, Unless, Passed, Judged}
+use Rattle.verdict.specs.Checks.{Passed, Judged}
 use Rattle.verdict.specs.declared.Answer.{Answer}
 use Rattle.verdict.proofs.Order.{Passes, judged-passes, long, roomy}
 use Rattle.verdict.proofs.Tests.{meets}
-use Rattle.machine.specs.Limits.{mostInputs, mostCouples}
+use Rattle.machine.specs.Limits.{mostInputs, Sized}
 use Rattle.machine.specs.Runs.{Machine, size}
-use Rattle.machine.proofs.Order.{below-or}
-use Rattle.machine.proofs.Couples.{settings-bound, couples-bound}
+use Rattle.machine.proofs.Couples.{settings-bound}
+use Rattle.machine.proofs.Sizes.{settings-are, sizes}
 use Rattle.machine.proofs.Soundness.{sound-machine}
-use Rattle.tables.specs.Tables.{Sized, Tabled, sizeChecks, moveChecks, movesAt, tableChecks}
+use Rattle.tables.specs.Tables.{Tabled, sizeChecks, moveChecks, movesAt, tableChecks}
 use Rattle.tables.specs.inner.Fits.{Small, Fit, Checked}
 use Rattle.tables.proofs.Transients.{all-states}
 
 -- the sizes of a table within their ranges, at z settings
 module _ {n s i z : ℕ} (sized : Sized n s i) (settings : n ≤ mostInputs → z ≡ 2 ^ n) where
-  pub settings-are : z ≡ 2 ^ n
-  settings-are = settings (sized .few-inputs)
-
-  pub couples-are : s * z ≡ s * 2 ^ n
-  couples-are = ap (λ (x : ℕ). s * x) settings-are
-
   pub small : Small s z
-  small = record { few-states = sized .few-states; few-settings = rw settings-are (settings-bound (sized .few-inputs)) }
+  small = record { few-states = sized .few-states; few-settings = rw (settings-are sized settings) (settings-bound (sized .few-inputs)) }
 
   -- what is told at z settings is told of the machine
   pub moves-told : (T : List ℕ) {a : Answer} → Judged (movesAt T s z) Passed a → Judged (movesAt T s (2 ^ n)) Passed a
-  moves-told T {a} v = subst (λ (k : ℕ). Judged (movesAt T s k) Passed a) settings-are v
+  moves-told T {a} v = subst (λ (k : ℕ). Judged (movesAt T s k) Passed a) (settings-are sized settings) v
 
   pub fits : (T : List ℕ) {a : Answer} → s * z ≤ length T → Judged (movesAt T s z) Passed a → a .number ≡ 0 → Fit T s z i
   fits T h v e = record { small = small; begins = sized .begins; long = h; inside = all-states T s z (judged-passes 10 v refl e .0) }
-
-pub couples-few : {n s i : ℕ} → Sized n s i → s * 2 ^ n ≤ mostCouples
-couples-few {n} {s} z = couples-bound s (2 ^ n) (z .few-states) (settings-bound (z .few-inputs))
-
--- an order that is not refuted holds
-stable : {a b : ℕ} → ((a ≤ b → ⊥) → ⊥) → a ≤ b
-stable {a} {b} f = ⊎-elim (λ (h : b < a). absurd (f (λ k. omega arith))) (λ h. h) (below-or b a)
-
-pub sizes : {n s i : ℕ} → None (Unless (Sized n s i)) → Sized n s i
-sizes n = record {
-  some-input = stable (λ f. n .nowhere 0 (refl, λ s. f (s .some-input)));
-  few-inputs = stable (λ f. n .nowhere 0 (refl, λ s. f (s .few-inputs)));
-  few-states = stable (λ f. n .nowhere 0 (refl, λ s. f (s .few-states)));
-  begins = stable (λ f. n .nowhere 0 (refl, λ s. f (s .begins)));
-}
 
 -- the checks passed, in two parts
 module _ (m : Machine) where
@@ -69,7 +46,7 @@ module _ (m : Machine) where
 -- and back; and the table reaches at z settings
 module _ {m : Machine} where
   pub reaches : Tabled m → {z : ℕ} → (m .inputs ≤ mostInputs → z ≡ size m) → m .states * z ≤ length (m .table)
-  reaches t settings = omega (arith, couples-are (t .sized) settings, t .long)
+  reaches t settings = rw (settings-are (t .sized) settings) (t .long)
 
   pub size-passes : Tabled m → Passes (sizeChecks m)
   size-passes t = (meets (t .sized), (long (t .long), tt))

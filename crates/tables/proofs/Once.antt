@@ -1,28 +1,14 @@
--- Each promise of this crate leaves one answer: a test has one, a list of checks has one verdict, and a number that is told is one.
-use mathlib.Core.Path.{_≡_, sym, _∙_}
+-- Each promise of this crate leaves one answer: a test has one, and a list of checks has one verdict.
+use mathlib.Core.Path.{_≡_}
 use mathlib.Core.Bool.{Bool}
 use mathlib.Core.List.{List}
-use mathlib.Core.Logic.{⊎-elim}
-use Prim.Native.Nat.{ℕ, _^_, _≤_, _<_}
+use Prim.Native.Nat.{ℕ}
 use Rattle.verdict.specs.Checks.{Decides, Passed, Judged}
 use Rattle.verdict.specs.declared.Answer.{Answer}
 use Rattle.verdict.proofs.Order.{judged-unique}
 use Rattle.verdict.proofs.Tests.{decides-unique}
-use Rattle.machine.specs.Limits.{mostInputs}
 use Rattle.machine.specs.Runs.{Machine, Starts}
-use Rattle.machine.proofs.Order.{below-or}
-use Rattle.tables.specs.Tables.{Sized, Tabled, roomChecks, tableChecks, soundChecks}
-use Rattle.tables.specs.declared.Room.{Room}
-
-pub settings-only : (inputs r s : ℕ) → (inputs ≤ mostInputs → r ≡ 2 ^ inputs) → (mostInputs < inputs → r ≡ 0)
-    → (inputs ≤ mostInputs → s ≡ 2 ^ inputs) → (mostInputs < inputs → s ≡ 0) → r ≡ s
-settings-only inputs r s few many few′ many′ = ⊎-elim (λ h. many h ∙ sym (many′ h)) (λ h. few h ∙ sym (few′ h)) (below-or mostInputs inputs)
-
-pub sized-only : (inputs states initial : ℕ) (r s : Bool) → Decides (Sized inputs states initial) r → Decides (Sized inputs states initial) s → r ≡ s
-sized-only inputs states initial r s = decides-unique _ r s
-
-pub check-rooms-only : (first second third : Room) {a b : Answer} → Judged (roomChecks first second third) Passed a → Judged (roomChecks first second third) Passed b → a ≡ b
-check-rooms-only first second third v w = judged-unique v w
+use Rattle.tables.specs.Tables.{Tabled, tableChecks, soundChecks}
 
 module _ (m : Machine) where
   pub tabled-only : (r s : Bool) → Decides (Tabled m) r → Decides (Tabled m) s → r ≡ s

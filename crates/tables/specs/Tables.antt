@@ -1,32 +1,16 @@
 -- The checks of a lent table (document 01, "Refusals by number"). Assumes nothing: these are definitions.
 use mathlib.Core.List.{List, [], _∷_, _++_}
-use Prim.Native.Nat.{ℕ, _≤_, _<_}
+use Prim.Native.Nat.{ℕ, _≤_}
 use lib.ListN.{length, getD}
 use Rattle.verdict.specs.Checks.{Check, check, Unless, Short}
-use Rattle.machine.specs.Limits.{mostInputs, mostStates}
+use Rattle.machine.specs.Limits.{Sized}
 use Rattle.machine.specs.Moves.{tableMoves, Stateless, Transient, SameWord, Unreached}
 use Rattle.machine.specs.Runs.{Machine, size, couples, Starts}
-use Rattle.tables.specs.declared.Room.{Room}
 
--- refusal 2 does not apply: each size is in its range, and the initial state is below S
-pub record Sized (inputs states initial : ℕ) : Type 0 where
-  pub some-input : 1 ≤ inputs
-  pub few-inputs : inputs ≤ mostInputs
-  pub few-states : states ≤ mostStates
-  pub begins : initial < states
-
--- nor does 3: the table has an element for each couple
+-- refusals 2 and 3 do not apply: the sizes are in their ranges, and the table has an element for each couple
 pub record Tabled (m : Machine) : Type 0 where
   pub sized : Sized (m .inputs) (m .states) (m .initial)
   pub long : couples m ≤ length (m .table)
-
--- refusal 3 of three buffers, in their order
-abbrev pub roomChecks : Room → Room → Room → List Check
-roomChecks first second third =
-    check 3 (Short (first .needed) (first .has))
-    ∷ check 3 (Short (second .needed) (second .has))
-    ∷ check 3 (Short (third .needed) (third .has))
-    ∷ []
 
 -- refusals 2 and 3 of a table
 abbrev pub sizeChecks : Machine → List Check

@@ -1,94 +1,29 @@
 // The checks of a lent table (document 01, "Refusals by number"): one gate for every job that is handed one.
 ghost use mathlib.Core.Path.{_≡_};
-ghost use Prim.Native.Nat.{ℕ, _*_, _<_, _≤_, _^_};
+ghost use Prim.Native.Nat.{ℕ, _≤_, _^_};
 ghost use lib.ListN.{length};
 ghost use Rattle.verdict.specs.Checks.{Decides, Passed, Judged};
-ghost use Rattle.machine.specs.Limits.{mostInputs, mostSettings};
 ghost use Rattle.machine.specs.Runs.{machineOf, Starts};
-ghost use Rattle.tables.specs.Tables.{Sized, Tabled, roomChecks, sizeChecks, tableChecks, stateChecks, soundChecks};
+ghost use Rattle.tables.specs.Tables.{Tabled, sizeChecks, tableChecks, stateChecks, soundChecks};
 ghost use Rattle.tables.specs.inner.Fits.{Fit};
 use crate::couples::check_moves;
 use crate::states::first_same;
 use crate::states::first_unreached;
 use crate::states::has_start;
 use machine::Frame;
-use machine::INPUTS;
-use machine::STATES;
+use machine::settings;
+use machine::sized;
 use verdict::Answer;
 use verdict::Found;
 
 mod couples;
 mod states;
 
-// The elements that a buffer needs, and those that it has.
-pub struct Room {
-    pub needed: usize,
-    pub has: usize,
-}
-
-// How many settings there are, at most as many inputs as a machine may have; 0 for more.
-pub fn settings(inputs: usize) -> usize
-    ensures few { λ r. ⌜ (inputs ≤ mostInputs → r ≡ 2 ^ inputs) × (r ≤ mostSettings) ⌝ }
-    ensures many { λ r. ⌜ (mostInputs < inputs → r ≡ 0) ⌝ }
-{
-    if INPUTS < inputs {
-        return 0;
-    }
-    1 << inputs
-}
-
-// Whether the sizes are in their ranges: otherwise refusal 2.
-pub fn sized(frame: Frame) -> bool
-    ensures { λ r. ⌜ Decides (Sized (frame .inputs) (frame .states) (frame .initial)) r ⌝ }
-{
-    if frame.inputs < 1 {
-        return false;
-    }
-    if INPUTS < frame.inputs {
-        return false;
-    }
-    if STATES < frame.states {
-        return false;
-    }
-    frame.initial < frame.states
-}
-
-// Whether the table, too, has an element for each couple: otherwise refusal 3.
+// Whether the sizes are in their ranges and the table has an element for each couple: otherwise refusal 2 or 3.
 pub fn tabled(frame: Frame, table: &[u8]) -> bool
     ensures { λ r. ⌜ Decides (Tabled (machineOf frame (now (table .entry)))) r ⌝ }
 {
-    if !sized(frame) {
-        return false;
-    }
-    frame.states * settings(frame.inputs) <= table.len()
-}
-
-// Refusal 3 of three buffers, at the first that is short.
-pub fn check_rooms(first: Room, second: Room, third: Room) -> Answer
-    ensures { λ r. ⌜ Judged (roomChecks first second third) Passed r ⌝ }
-{
-    if first.has < first.needed {
-        return Answer {
-            number: 3,
-            place: first.needed,
-        };
-    }
-    if second.has < second.needed {
-        return Answer {
-            number: 3,
-            place: second.needed,
-        };
-    }
-    if third.has < third.needed {
-        return Answer {
-            number: 3,
-            place: third.needed,
-        };
-    }
-    Answer {
-        number: 0,
-        place: 0,
-    }
+    check_sizes(frame, table).number == 0
 }
 
 // Refusals 2 and 3 of a table.

@@ -7,6 +7,7 @@ use Prim.Native.Nat.{ℕ, _<_}
 use Rattle.verdict.specs.declared.Answer.{Answer}
 use Rattle.verdict.specs.declared.Found.{Found}
 use Rattle.verdict.specs.declared.Found.the-variants.{At, Nothing}
+use Rattle.verdict.specs.declared.Room.{Room}
 
 -- a test answers whether P holds
 pub record Decides (P : Type 0) (answer : Bool) : Type 0 where
@@ -42,6 +43,14 @@ Unless P p = (p ≡ 0) × (P → ⊥)
 -- a buffer too short has the needed elements as its place
 abbrev pub Short : ℕ → ℕ → ℕ → Type 0
 Short needed has p = (p ≡ needed) × (has < needed)
+
+-- refusal 3 of three buffers, in their order
+abbrev pub roomChecks : Room → Room → Room → List Check
+roomChecks first second third =
+    check 3 (Short (first .needed) (first .has))
+    ∷ check 3 (Short (second .needed) (second .has))
+    ∷ check 3 (Short (third .needed) (third .has))
+    ∷ []
 
 -- a fault of what is fit; what is not fit has none
 pub record Within (G : Type 0) (F : ℕ → Type 0) (p : ℕ) : Type 0 where

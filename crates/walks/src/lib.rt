@@ -1,1 +1,2 @@
-// No functions. The laws with which every walk of a function by hand ends stand in proofs/, for the crates that lend structs.
+// No functions. The words of a walk of a function by hand, and the laws with which every one ends, stand in proofs/, for the crates that lend
+// structs.

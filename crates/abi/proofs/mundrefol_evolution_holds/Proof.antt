@@ -1,4 +1,4 @@
--- `abi::mundrefol_evolution_holds` promises what `specification::evolution_holds` does: a walk of its MIR, by hand. Its arguments are passed on as they are.
+-- `abi::mundrefol_evolution_holds` promises what `evolutions::evolution_holds` does: a walk of its MIR, by hand. Its arguments are passed on as they are.
 use mathlib.Core.Path.{refl}
 use mathlib.Core.List.{[], _∷_}
 use mir.Syntax.{named, w64}
@@ -15,11 +15,11 @@ use denote.Signature.{typesAt}
 use denote.Triple.Spec.{tripleOf}
 use denote.Triple.Call.{calls-at}
 use denote.Triple.Table.{cited}
-use Rattle.specification.proofs.Rows.{R}
-use Rattle.specification.proofs.evolution_holds as holds
-use Rattle.specification.proofs.evolution_holds.Symbol as holds-def
-use Rattle.specification.proofs.evolution_holds.Symbol.{name as #specification·evolution-holds}
-use Rattle.specification.proofs.evolution_holds.Met as holds-thm
+use Rattle.evolutions.proofs.Rows.{R}
+use Rattle.evolutions.proofs.evolution_holds as holds
+use Rattle.evolutions.proofs.evolution_holds.Symbol as holds-def
+use Rattle.evolutions.proofs.evolution_holds.Symbol.{name as #evolutions·evolution-holds}
+use Rattle.evolutions.proofs.evolution_holds.Met as holds-thm
 use Rattle.abi.proofs.Alike.{answers, alike}
 use Rattle.abi.proofs.mundrefol_evolution_holds.Key.{name as #abi·mundrefol-evolution-holds}
 use Rattle.abi.proofs.mundrefol_evolution_holds.Statement as stated
@@ -30,7 +30,7 @@ unfolding code.routine tablesOf
 mundrefol-evolution-holds-spec 𝓤 H 𝓜 𝓖 𝓡 =
     let W = givenOf 𝓤 H 𝓜 𝓖 in let A = 𝓖 .A in let S = holds.signature in let c = holds.spec 𝓤 H A (𝓜 .mem) (𝓡 .run) in
     let 𝓣 = tablesOf 𝓤 H 𝓜 (tables 𝓤 H 𝓜 𝓡 code.env) in
-    let known = cited 𝓤 H (tripleOf 𝓤 H A S c) 𝓜 𝓡 code.env #specification·evolution-holds holds-def.routine code.calls-specification·evolution-holds (holds-thm.met 𝓤 H 𝓜 𝓖 𝓡) in
+    let known = cited 𝓤 H (tripleOf 𝓤 H A S c) 𝓜 𝓡 code.env #evolutions·evolution-holds holds-def.routine code.calls-evolutions·evolution-holds (holds-thm.met 𝓤 H 𝓜 𝓖 𝓡) in
     let sp : (κs : Lfts 2) → Spells (typesAt (S .params) κs) = λ κs. (slice-vals, (uint-vals w64, (slice-vals, (uint-vals w64, (uint-vals w64, tt))))) in
     alike 𝓤 H 𝓜 𝓖 𝓡 code.env S c #abi·mundrefol-evolution-holds code.function (code.unfolded 𝓤 H 𝓜 𝓡)
     sp

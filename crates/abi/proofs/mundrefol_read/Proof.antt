@@ -16,7 +16,7 @@ use denote.Struct.Laws as LL
 use denote.Triple.Spec.{tripleOf}
 use denote.Triple.Call.{calls-at}
 use denote.Triple.Table.{cited}
-use Rattle.specification.proofs.Rows.{R}
+use Rattle.evolutions.proofs.Rows.{R}
 use Rattle.specification.proofs.Contents as T
 use Rattle.specification.proofs.Contents.Laws as T′
 use Rattle.specification.proofs.read as read

@@ -2,7 +2,7 @@
 use borrow.Author.Needs.{needs}
 use borrow.Author.Tests.{not-true, not-false}
 use native.Mathlib.Omega.{arith}
-use Rattle.tables.proofs.Gate.{couples-few, couples-are}
+use Rattle.machine.proofs.Sizes.{couples-few, couples-are}
 use Rattle.marking.proofs.Checks.{unsized, sizes}
 use Rattle.marking.proofs.check_sizes.Statement.{statement}
 use Rattle.marking.proofs.check_sizes.Tie as tie

@@ -3,9 +3,9 @@ use mathlib.Core.Path.{_≡_}
 use mathlib.Core.List.{List, [], _++_}
 use mathlib.Core.Bool.{Bool, true, false, not, cond}
 use Prim.Native.Nat.{ℕ, zero, suc, _+_, _*_, _/_, _%_, _≤_, _<_}
-use lib.ListN.{length, getD, set}
+use lib.ListN.{length, getD, set, replicate}
 use lib.Dec.{eqb}
-use Rattle.machine.specs.Limits.{unmarked}
+use Rattle.machine.specs.Limits.{mostCouples, unmarked}
 use Rattle.machine.specs.Plans.{storedRun}
 use Rattle.plan.specs.inner.Writing.{settings, Tree}
 
@@ -85,3 +85,7 @@ pub record RoomFor (table parents : List ℕ) (size flags c : ℕ) : Type 0 wher
   pub total : ℕ
   pub room : Room table parents size flags total
   pub below : c < total
+
+-- the stored plan of t couples, none of which is visited before
+abbrev pub wholePlan : List ℕ → List ℕ → List ℕ → ℕ → ℕ → List ℕ
+wholePlan table parents ranks size t = plan table parents ranks size t (replicate mostCouples false)

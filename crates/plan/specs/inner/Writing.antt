@@ -4,6 +4,8 @@ use mathlib.Core.List.{List, [], _++_}
 use mathlib.Core.Bool.{Bool, true, false, cond}
 use Prim.Native.Nat.{ℕ, zero, suc, _+_, _≤_, _<_}
 use lib.ListN.{length, getD, drop}
+use Rattle.verdict.specs.Buffers.{Front}
+use Rattle.verdict.specs.declared.Answer.{Answer}
 use Rattle.machine.specs.Limits.{mostSettings, unmarked}
 use Rattle.machine.specs.Plans.{storedRun}
 use Rattle.machine.specs.inner.Model.{followed}
@@ -43,3 +45,14 @@ pub record Flags (ranks : List ℕ) (chosen : List Bool) (t : ℕ) : Type 0 wher
   pub ranks-long : t ≤ length ranks
   pub flags-long : t ≤ length chosen
   pub marked : (c : ℕ) → c < t → getD chosen c false ≡ true → getD ranks c 0 < unmarked
+
+-- how w ends in a lent buffer a: refused by 16 with the room needed, or at its front
+pub data Ends (w a : List ℕ) : Answer → List ℕ → Type 0 where
+  short : length a < length w → Ends w a (record { number = 16; place = length w }) a
+  fits : {b : List ℕ} → length w ≤ length a → Front w a b → Ends w a (record { number = 0; place = length w }) b
+
+-- how the run to couple c ends, by the ranks and parents of t couples
+pub data RunEnds (ranks parents : List ℕ) (size t c : ℕ) (run : List ℕ) : Answer → List ℕ → Type 0 where
+  outside : t ≤ c → RunEnds ranks parents size t c run (record { number = 14; place = 0 }) run
+  unranked : c < t → getD ranks c 0 ≡ unmarked → RunEnds ranks parents size t c run (record { number = 15; place = 0 }) run
+  ranked : {a : Answer} {run₁ : List ℕ} → c < t → (getD ranks c 0 ≡ unmarked → ⊥) → Ends (settings parents size c (getD ranks c 0 + 1)) run a run₁ → RunEnds ranks parents size t c run a run₁

@@ -5,11 +5,10 @@ use mathlib.Core.Path.{subst₂}
 use Prim.Native.Nat.{ℕ}
 use lib.ListN.{length}
 use borrow.Author.Tests.{not-true, not-false}
-use Rattle.verdict.specs.Checks.{Judged, Passed}
+use Rattle.verdict.specs.Checks.{Judged, Passed, roomChecks}
 use Rattle.verdict.proofs.Order.{pass, halt}
 use Rattle.verdict.proofs.Tests.{whole, meets}
-use Rattle.tables.specs.Tables.{roomChecks}
-use Rattle.tables.proofs.Gate.{couples-are, couples-few}
+use Rattle.machine.proofs.Sizes.{couples-are, couples-few}
 use Rattle.readings.proofs.check_shape.Statement.{statement}
 use Rattle.readings.proofs.check_shape.Tie as tie
 

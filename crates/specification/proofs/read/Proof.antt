@@ -1,14 +1,14 @@
 -- `read` reads a file into lent records: a walk of its MIR, with no branch. `read_core` is called on the file, the table and the words, and `fill` on the records and the file; each `&mut` goes to its callee for good, at its own lifetime and name. All that the proof knows of the two is their contracts.
-use Rattle.specification.proofs.Walking.{_≡_, refl, ap, subst, ℕ, _<_, _^_, [], _∷_, _++_, List, Bool, length, drop-list, URA, fullShare, named, w64, Val, vint, vbool, SProp, ent, emp, via, fst∗, id⊢, Lft, Share, Fml, ftrue, fat, flft, Memory, Routine, Heap, Calls, Loops, WpFn, Atoms, Fun, fact, givenOf, tables, tablesOf, Given, Item, ‵, raw, some, later, _⊛_, ⋆, _$_, _∵_, !, qed, by, move, keep, drop, group, use1, split, join, pick, rewrite, fsplit, fjoin, feqL, suffices, frame, await, done, look, init, forget, stop, hop, fld, from, load, addr, of-opd, and-then, no-more, assigns, land, returns, enter, alloc1, alloc0, params1, pass1, pass0, free1, free0, agg, whole, sub, look-in, FmC, fmOf, owns, Is, shows, uint-makes, bool-makes, nothing-lawful, u8, u16, usize, bool, unit, RefT, now, sliceVal, ShrSlice, MutSlice, Room, finally, slice-vals, shr-slice-tells, mut-slice-tells, shr-slice-copy, one-slot, only, owned, peeks, heard, nothing, onEntry, tripleOf, Contract, Triple, calls-at, Lasts, ensured, lasts, cited, says, Stays, stay-none-slice, gave-slice, walkOf, goes-none-slice, goes-gave-slice, ends-at, yes}
+use Rattle.walks.proofs.Walking.{_≡_, refl, ap, subst, ℕ, _<_, _^_, [], _∷_, _++_, List, Bool, length, drop-list, URA, fullShare, named, w64, Val, vint, vbool, SProp, ent, emp, via, fst∗, id⊢, Lft, Share, Fml, ftrue, fat, flft, Memory, Routine, Heap, Calls, Loops, WpFn, Atoms, Fun, fact, givenOf, tables, tablesOf, Given, Item, ‵, raw, some, later, _⊛_, ⋆, _$_, _∵_, !, qed, by, move, keep, drop, group, use1, split, join, pick, rewrite, fsplit, fjoin, feqL, suffices, frame, await, done, look, init, forget, stop, hop, fld, from, load, addr, of-opd, and-then, no-more, assigns, land, returns, enter, alloc1, alloc0, params1, pass1, pass0, free1, free0, agg, whole, sub, look-in, FmC, fmOf, owns, Is, shows, uint-makes, bool-makes, nothing-lawful, u8, u16, usize, bool, unit, RefT, now, sliceVal, ShrSlice, MutSlice, Room, finally, slice-vals, shr-slice-tells, mut-slice-tells, shr-slice-copy, one-slot, only, owned, peeks, heard, nothing, onEntry, tripleOf, Contract, Triple, calls-at, Lasts, ensured, lasts, cited, says, Stays, stay-none-slice, gave-slice, walkOf, goes-none-slice, goes-gave-slice, ends-at, yes}
 use denote.Struct.Laws as LL
-use Rattle.specification.specs.declared.Evolution.{Evolution}
+use Rattle.evolutions.specs.declared.Evolution.{Evolution}
 use Rattle.specification.specs.declared.Contents.{Contents}
 use Rattle.specification.specs.declared.reading.Core.{Core}
 use Rattle.specification.specs.inner.Filling.{filling}
 use Rattle.specification.specs.inner.Private.{CoreAs}
 use Rattle.specification.specs.Reading.{ReadAs}
 use Rattle.specification.proofs.HandOn.{fillable, hands-on}
-use Rattle.specification.proofs.Rows.{R}
+use Rattle.evolutions.proofs.Rows.{R}
 use Rattle.walks.proofs.Finish.{finish}
 use Rattle.specification.proofs.Contents as An
 use Rattle.specification.proofs.Contents.Laws as An′

@@ -3,9 +3,9 @@ use mathlib.Core.Bool.{Bool, cond}
 use mathlib.Core.List.{List, [], _∷_, _++_}
 use Prim.Native.Nat.{ℕ, zero, suc, _+_, _*_, _≤_}
 use lib.ListN.{length, getD}
+use Rattle.evolutions.specs.Evolutions.{blank}
+use Rattle.evolutions.specs.declared.Evolution.{Evolution}
 use Rattle.specification.specs.Limits.{mostBytes}
-use Rattle.specification.specs.Evolutions.{blank}
-use Rattle.specification.specs.declared.Evolution.{Evolution}
 use Rattle.specification.specs.declared.handing.Next.{Next}
 
 -- where the text of evolution i starts: the evolutions' bytes begin at `from`, their texts at `text`

@@ -4,7 +4,7 @@ use native.Mathlib.Omega.{arith}
 use borrow.Author.Tests.{not-true, not-false}
 use Rattle.verdict.proofs.Order.{pass, halt, ends, short, long}
 use Rattle.verdict.proofs.Tests.{whole, meets}
-use Rattle.tables.proofs.Gate.{couples-are, couples-few}
+use Rattle.machine.proofs.Sizes.{couples-are, couples-few}
 use Rattle.tables.proofs.check_sizes.Statement.{statement}
 use Rattle.tables.proofs.check_sizes.Tie as tie
 

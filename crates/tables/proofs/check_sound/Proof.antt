@@ -7,7 +7,8 @@ use Rattle.verdict.specs.Checks.{check, Short}
 use Rattle.verdict.proofs.Order.{pass, halt, short, long, judged-on, judged-stop}
 use Rattle.machine.specs.Runs.{machineOf}
 use Rattle.tables.specs.Tables.{moveChecks, stateChecks}
-use Rattle.tables.proofs.Gate.{size-told, settings-are, small, reaches, moves-told, fits}
+use Rattle.machine.proofs.Sizes.{settings-are}
+use Rattle.tables.proofs.Gate.{size-told, small, reaches, moves-told, fits}
 use Rattle.tables.proofs.check_sound.Statement.{statement}
 use Rattle.tables.proofs.check_sound.Tie as tie
 

@@ -3,7 +3,8 @@ use borrow.Author.Needs.{needs}
 use native.Mathlib.Omega.{arith}
 use borrow.Author.Tests.{not-true, not-false}
 use Rattle.verdict.proofs.Tests.{it-fails, decides-map}
-use Rattle.tables.proofs.Gate.{settings-are, small}
+use Rattle.machine.proofs.Sizes.{settings-are}
+use Rattle.tables.proofs.Gate.{small}
 use Rattle.tables.proofs.started.Statement.{statement}
 use Rattle.tables.proofs.started.Tie as tie
 

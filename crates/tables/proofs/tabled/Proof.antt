@@ -1,27 +1,19 @@
--- `tabled` decides that refusals 2 and 3 do not apply.
+-- `tabled` decides that refusals 2 and 3 do not apply, by the answer of their checks.
 use borrow.Author.Needs.{needs}
-use native.Mathlib.Omega.{arith}
-use Prim.Native.Nat.{_*_}
-use lib.ListN.{length}
-use borrow.Author.Tests.{not-true, not-false}
-use Rattle.verdict.proofs.Tests.{it-fails, decides-leb}
-use Rattle.tables.proofs.Gate.{couples-are, couples-few}
+use mathlib.Core.List.{[]}
+use Rattle.verdict.proofs.Order.{judged-rest}
+use Rattle.verdict.proofs.Tests.{decides-eqb}
+use Rattle.machine.specs.Runs.{machineOf}
+use Rattle.tables.specs.Tables.{sizeChecks}
+use Rattle.tables.proofs.Gate.{size-told, size-passes}
 use Rattle.tables.proofs.tabled.Statement.{statement}
 use Rattle.tables.proofs.tabled.Tie as tie
 
 returns : tie.Need-returns
-returns c = it-fails λ t. c .before .sized .ensures .fails (not-true _ (c .if1 .taken)) (t .sized)
-
-mul-result : tie.Need-mul-result
-mul-result c =
-    let z = c .before .before .before .sized .ensures .holds (not-false _ (c .before .before .if1 .left)) in
-    omega (arith, couples-are z (c .before .settings .ensures .0 .0), couples-few z)
-
-returns-2 : tie.Need-returns-2
-returns-2 c =
-    let z = c .before .before .before .sized .ensures .holds (not-false _ (c .before .before .if1 .left)) in
-    let e = couples-are z (c .before .settings .ensures .0 .0) in
-    decides-leb (c .before .before .before .before .before .args .frame .states * c .before .settings .result) (length (c .before .before .before .before .before .args .table .now)) (λ h. record { sized = z; long = omega arith }) (λ t. omega (arith, t .long))
+returns c =
+    let m = machineOf (c .before .before .before .args .frame) (c .before .before .before .args .table .now) in
+    let v = c .before .check-sizes .ensures in
+    decides-eqb (c .before .check-sizes .result .number) 0 (size-told m v) (λ t. judged-rest (sizeChecks m) {ds = []} (size-passes t) v .verdict .number)
 
 pub tabled-spec : {M : Type 1} → statement M
-tabled-spec = tie.close (tie.spec (λ c κs. search needs) returns (λ c κs. search needs) mul-result returns-2)
+tabled-spec = tie.close (tie.spec (λ c κs. search needs) returns)

@@ -4,7 +4,7 @@ use borrow.Author.Needs.{needs}
 use lib.ListN.{length-replicate}
 use Prim.Native.Nat.{ℕ}
 use Rattle.machine.specs.Limits.{mostCouples}
-use Rattle.tables.proofs.Gate.{couples-few}
+use Rattle.machine.proofs.Sizes.{couples-few}
 use Rattle.marking.proofs.queue.fill.Statement.{statement}
 use Rattle.marking.proofs.queue.fill.Tie as tie
 

@@ -6,7 +6,7 @@ use lib.ListN.{length}
 use Rattle.verdict.proofs.Tests.{Unseen, unseen-start, unseen-more, unseen-here, unseen-end}
 use Rattle.machine.specs.Runs.{machineOf, Fault}
 use Rattle.machine.specs.Runs.Fault.{empty}
-use Rattle.tables.proofs.Gate.{settings-are}
+use Rattle.machine.proofs.Sizes.{settings-are}
 use Rattle.runs.proofs.Indices.{at-start, at-change, fault-inside}
 use Rattle.runs.proofs.faults.first_fault.Statement.{statement}
 use Rattle.runs.proofs.faults.first_fault.Tie as tie

@@ -1,22 +1,22 @@
 -- `fill` fills the records: a walk of its MIR with a loop. The borrow of the records is opened once, before the loop, and closed once, after it; between the two the first i records are the file's. Each turn calls `one`, stores its record, and goes on to the next place.
 -- All that the proof knows of `one` is its contract.
-use Rattle.specification.proofs.Walking.{_≡_, refl, sym, ap, subst, _∙_, ℕ, _+_, _*_, _-_, _<_, _≤_, _^_, zero-le, Bool, true, false, [], _∷_, List, ltb, lit<, length, URA, fullShare, Ty, named, imm, mut, w8, w64, tyInt, tyBool, tyPtr, tyUnit, tyRef, Val, vunit, vint, vbool, vptr, SProp, ent, sep, exE, snd∗, id⊢, Lft, Share, GName, Fml, ftrue, fat, froom, fdies, flft, fobs, fauth, fbor, fobor, Memory, Routine, Heap, Env, Out, Calls, Loops, Wp, WpFn, Tables, afterSeq, afterBlock, afterTurn, atReturn, Atoms, sem, Fun, fact, givenOf, tables, tablesOf, Given, Item, Sq, runs, anyQ, atRet, ‵, raw, some, later, _⊛_, ⋆, _$_, _∵_, !, qed, by, move, keep, drop, use0, use1, use2, split, join, pick, rewrite, fsplit, fjoin, feqI, suffices, frame, await, done, look, init, store, store-raw, forget, stop, hop, fld, from, load, lit, unit-lit, of-opd, bin, and-then, no-more, assigns, assigns-last, land, first, blocks, stays, leaves-loop, Below, again, loops, exec, returns, enter, alloc1, alloc0, params1, pass1, pass0, free1, free0, whole, sub, look-in, fmOf, RattleType, owns, pureI, Is, Ises, Are, Makess, shows, owns-make, pointee, uint-vals, uint-tells, uint-makes, bool-vals, bool-tells, bool-makes, u8, usize, bool, RefT, now, sliceTy, sliceVal, MutSlice, ShrSlice, Room, heres, slice-vals, mut-slice-tells, shr-slice-tells, shr-slice-copy, codedHoleys, at-slice, Held, row, place-is, elem-out, elem-put, opens-slice, closes-slice, one-slot as plain, only, owned, peeks, heard, nothing, onEntry, tripleOf, Contract, Triple, calls-at, ensured, lasts, cited, says, needs, Stays, stay-slice, stay-none-slice, stay-none, walkOf, goes-slice, goes-none-slice, goes-none, ends-at, yes}
+use Rattle.walks.proofs.Walking.{_≡_, refl, sym, ap, subst, _∙_, ℕ, _+_, _*_, _-_, _<_, _≤_, _^_, zero-le, Bool, true, false, [], _∷_, List, ltb, lit<, length, URA, fullShare, Ty, named, imm, mut, w8, w64, tyInt, tyBool, tyPtr, tyUnit, tyRef, Val, vunit, vint, vbool, vptr, SProp, ent, sep, exE, snd∗, id⊢, Lft, Share, GName, Fml, ftrue, fat, froom, fdies, flft, fobs, fauth, fbor, fobor, Memory, Routine, Heap, Env, Out, Calls, Loops, Wp, WpFn, Tables, afterSeq, afterBlock, afterTurn, atReturn, Atoms, sem, Fun, fact, givenOf, tables, tablesOf, Given, Item, Sq, runs, anyQ, atRet, ‵, raw, some, later, _⊛_, ⋆, _$_, _∵_, !, qed, by, move, keep, drop, use0, use1, use2, split, join, pick, rewrite, fsplit, fjoin, feqI, suffices, frame, await, done, look, init, store, store-raw, forget, stop, hop, fld, from, load, lit, unit-lit, of-opd, bin, and-then, no-more, assigns, assigns-last, land, first, blocks, stays, leaves-loop, Below, again, loops, exec, returns, enter, alloc1, alloc0, params1, pass1, pass0, free1, free0, whole, sub, look-in, fmOf, RattleType, owns, pureI, Is, Ises, Are, Makess, shows, owns-make, pointee, uint-vals, uint-tells, uint-makes, bool-vals, bool-tells, bool-makes, u8, usize, bool, RefT, now, sliceTy, sliceVal, MutSlice, ShrSlice, Room, heres, slice-vals, mut-slice-tells, shr-slice-tells, shr-slice-copy, codedHoleys, at-slice, Held, row, place-is, elem-out, elem-put, opens-slice, closes-slice, one-slot as plain, only, owned, peeks, heard, nothing, onEntry, tripleOf, Contract, Triple, calls-at, ensured, lasts, cited, says, needs, Stays, stay-slice, stay-none-slice, stay-none, walkOf, goes-slice, goes-none-slice, goes-none, ends-at, yes}
 use native.Mathlib.Omega.{arith}
 use native.Mathlib.Numerals.{add-one, add-one-dec}
 use mathlib.Core.WellFounded.{WellFounded, InvImage·wf}
 use lib.WfN.{Nat·lt-wfRel}
 use borrow.Author.Tests.{ltb-true, ltb-false}
 use denote.Struct.Laws as LL
-use Rattle.specification.specs.declared.Evolution.{Evolution}
+use Rattle.evolutions.specs.declared.Evolution.{Evolution}
 use Rattle.specification.specs.declared.handing.Next.{Next}
 use Rattle.specification.specs.Limits.{mostBytes}
-use Rattle.specification.specs.Evolutions.{blank}
+use Rattle.evolutions.specs.Evolutions.{blank}
 use Rattle.specification.specs.inner.Filling.{placeOf, Fillable, filledOf, nextOf}
 use Rattle.specification.proofs.Filling.{place-le, filled, filled-length, filled-more}
-use Rattle.specification.proofs.Rows.{R, vals, place-fits}
+use Rattle.evolutions.proofs.Rows.{R, vals, place-fits}
 use Rattle.walks.proofs.Finish.{finish}
-use Rattle.specification.proofs.Evolution as T
-use Rattle.specification.proofs.Evolution.Laws as T′
+use Rattle.evolutions.proofs.Evolution as T
+use Rattle.evolutions.proofs.Evolution.Laws as T′
 use Rattle.specification.proofs.handing.Next as N
 use Rattle.specification.proofs.handing.Next.Laws as N′
 use Rattle.specification.proofs.handing.one as one

@@ -3,11 +3,10 @@ use borrow.Author.Needs.{needs}
 use native.Mathlib.Omega.{arith}
 use mathlib.Core.Path.{sym, subst}
 use borrow.Author.Tests.{not-true, not-false}
-use Rattle.verdict.specs.Checks.{Judged, Passed}
+use Rattle.verdict.specs.Checks.{Judged, Passed, roomChecks}
 use Rattle.verdict.proofs.Order.{pass, halt}
 use Rattle.verdict.proofs.Tests.{whole, meets}
 use Rattle.specification.specs.Records.{couples, Ranges}
-use Rattle.tables.specs.Tables.{roomChecks}
 use Rattle.specification.proofs.Laws.{laid-out}
 use Rattle.specification.proofs.reading.check_shape.Statement.{statement}
 use Rattle.specification.proofs.reading.check_shape.Tie as tie

@@ -5,7 +5,7 @@ use Prim.Native.Nat.{_-_, _≤_}
 use Rattle.verdict.proofs.Order.{pass, halt, ends}
 use Rattle.verdict.proofs.Tests.{Unseen, unseen-start, unseen-more}
 use Rattle.specification.specs.Rules.{Unreads}
-use Rattle.specification.proofs.Firing.{told-reads, told-unread}
+use Rattle.condition.proofs.Says.{told-reads, told-unread}
 use Rattle.specification.proofs.rules.check_texts.Statement.{statement}
 use Rattle.specification.proofs.rules.check_texts.Tie as tie
 

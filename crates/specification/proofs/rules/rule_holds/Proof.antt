@@ -1,7 +1,7 @@
 -- `rule_holds` is whether the condition reads and says true.
 use borrow.Author.Needs.{needs}
 use Rattle.verdict.proofs.Tests.{it-fails}
-use Rattle.specification.proofs.Firing.{told-decides, told-unread}
+use Rattle.condition.proofs.Says.{told-decides, told-unread}
 use Rattle.specification.proofs.rules.rule_holds.Statement.{statement}
 use Rattle.specification.proofs.rules.rule_holds.Tie as tie
 

@@ -1,13 +1,12 @@
 -- `says` reads the part of the file that is the record's text, which lies within the file because the lengths sum up to its end.
 use borrow.Author.Needs.{needs}
 use native.Mathlib.Omega.{arith}
-use mathlib.Core.Path.{_≡_, subst}
+use mathlib.Core.Path.{_≡_}
 use Prim.Native.Nat.{_+_, _≤_}
 use lib.ListN.{getD}
-use Rattle.condition.specs.Condition.{Says}
+use Rattle.condition.proofs.Says.{says-part}
 use Rattle.specification.specs.Records.{sumTo, records, textLength}
 use Rattle.specification.specs.Rules.{textAt}
-use Rattle.specification.proofs.Firing.{part-is}
 use Rattle.specification.proofs.Laws.{sum-below}
 use Rattle.specification.proofs.rules.says.Statement.{statement}
 use Rattle.specification.proofs.rules.says.Tie as tie
@@ -21,7 +20,7 @@ starts c = let a = c .before .args in c .before .pre .0 .at (a .r) (omega arith)
 returns : tie.Need-returns
 returns c =
     let a = c .before .before .before .before .before .args in
-    subst (λ w. Says (a .z .inputs) (a .v) w (c .read .result)) (part-is (a .file .now) (starts (c .before .before .before .before)) (c .before .before .text-length .ensures .0)) (c .read .ensures)
+    says-part (a .file .now) (starts (c .before .before .before .before)) (c .before .before .text-length .ensures .0) (c .read .ensures)
 
 pub says-spec : {M : Type 1} → statement M
 says-spec =
