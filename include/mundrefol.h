@@ -3,10 +3,12 @@
  *
  * Words used below. A setting is a number below 2^inputs; input a weighs 1, b 2, and so on to h.
  * The couple (state, setting) has the number state * 2^inputs + setting. A table gives each couple
- * its move: the state that follows. A couple is at rest if its move is its own state. A run is a
- * start, a setting at which the initial state rests, then settings that each differ from the one
- * before in exactly one input. A file's records are its states, then its evolutions, numbered from 0.
- * A buffer's needed part is what the answer uses of it.
+ * its move: the state that follows. A couple is at rest if its move is its own state. Settings may be
+ * ruled out: no run uses them. A run is a start, a setting not ruled out at which the initial state
+ * rests, then settings not ruled out that each differ from the one before in exactly one input. A
+ * file's records are its states, then its evolutions, then the condition of kind 5 if it has one, at
+ * which a setting is ruled out; they are numbered from 0. A buffer's needed part is what the answer
+ * uses of it.
  *
  * Every function takes any numbers and any contents. A pointer is never null, whatever its length,
  * and valid for the number of elements that its length names; a buffer that is written does not
@@ -16,10 +18,12 @@
  *
  *   No.  when                                                      place
  *    1   file too long or too short, or its contents wrong         0
+ *        (bodies of kinds 1 to 4, kind 5 after them or not)
  *    2   a size outside its range, or sizes that do not agree      0
+ *        (kind 5 has at most 255 bytes)
  *    3   a table, word, record, rank or reading buffer too short   needed elements of the first such
  *    4   output bit beyond the outputs; state not below states     record, or couple
- *    5   condition does not read                                   record
+ *    5   condition does not read                                   record (kind 5: after the last evolution)
  *    6   evolution to its own source                               record
  *    7   same source and target as an earlier evolution            record
  *    8   two rules hold                                            couple
@@ -27,11 +31,11 @@
  *   10   transient: the move's own couple is not at rest           couple
  *   11   output word of an earlier state                           state
  *   12   state never reached                                       state
- *   13   no start                                                  0
+ *   13   no start, or each one ruled out                           0
  *   14   asked couple not below states * 2^inputs                  0
  *   15   asked couple not marked                                   0
  *   16   run or plan buffer short                                  bytes needed
- *   17   not a run                                                 index of the first fault, 0 if empty
+ *   17   not a run (a setting ruled out is a fault)                index of the first fault, 0 if empty
  *   18   log not sound, or its readings at 4294967295              0
  *
  * They are checked in this order, each over the whole input before the next; the place is the
@@ -51,12 +55,16 @@ extern "C" {
 /* The answer of a table job: its number, and its place. */
 typedef struct { size_t number, place; } mundrefol_answer;
 
-/* What a table job is told beside the table: the numbers of inputs and states, and the initial state. */
-typedef struct { size_t inputs, states, initial; } mundrefol_frame;
+/*
+ * What a table job is told beside the table: the numbers of inputs and states, the initial state, and
+ * the settings that are ruled out. Setting v is ruled out if bit v % 64 of never[v / 64] is 1. Reading
+ * leaves the bits at and beyond 2^inputs zero; the table jobs give them no meaning.
+ */
+typedef struct { size_t inputs, states, initial; uint64_t never[4]; } mundrefol_frame;
 
 /*
  * The answer of reading a file: number and place; outputs, evolutions and frame of the file, all
- * zero on refusal. The frame goes to the table jobs as it is.
+ * zero on refusal. Without kind 5 no setting is ruled out. The frame goes to the table jobs as it is.
  */
 typedef struct { size_t number, place, outputs, evolutions; mundrefol_frame frame; } mundrefol_contents;
 
@@ -74,7 +82,8 @@ typedef struct { size_t number, place, kind; } mundrefol_noted;
 
 /*
  * Reads a specification file. On success the place is 0, the table holds the move of each of the
- * states * 2^inputs couples, words the output word of each state, records each evolution.
+ * states * 2^inputs couples, ruled out or not, words the output word of each state, records each
+ * evolution.
  * Refused by 1 to 13. After 1 to 3 nothing changes; after 4 to 13 the needed table bytes are 255,
  * the needed words 65535 and the needed records zero.
  */

@@ -1,6 +1,8 @@
 //! The specification files of the folder `examples/`, as readable descriptions.
 
-use crate::file::{File, Leaving, State};
+use crate::file::{with_contents, File, Leaving, State};
+use crate::generate::padded;
+use crate::plain::TEXT;
 
 /// An example: its name in the folder, and its bytes.
 pub struct Example {
@@ -12,12 +14,20 @@ pub struct Example {
 pub fn all() -> Vec<Example> {
     let example = |name, bytes| Example { name, bytes };
     vec![
+        example("cutter", cutter().bytes()),
+        example("cutter-alarm", cutter_alarm().bytes()),
         example("gate", gate().bytes()),
         example("lamp", lamp().bytes()),
+        example("refused-01-kind-4-twice", with_kinds(lamp().never("a"), &[1, 2, 3, 4, 4])),
+        example("refused-01-kinds-1-2-3-5", with_kinds(lamp(), &[1, 2, 3, 5])),
+        example("refused-01-six-entries", six_entries()),
         example("refused-01-wrong-mark", wrong_mark()),
+        example("refused-02-long-kind-5", lamp().never(&padded("!a".into(), TEXT + 1)).bytes()),
         example("refused-02-nine-inputs", File { inputs: 9, ..lamp() }.bytes()),
         example("refused-04-output-bit", with_word(lamp(), 1, 3).bytes()),
         example("refused-05-does-not-read", with_condition(lamp(), 3, "!a+").bytes()),
+        example("refused-05-kind-5-does-not-read", cutter().never("b.").bytes()),
+        example("refused-05-kind-5-is-empty", cutter().never("").bytes()),
         example("refused-06-own-source", own_source().bytes()),
         example("refused-07-same-states", same_states().bytes()),
         example("refused-08-two-rules", with_condition(lamp(), 0, "1").bytes()),
@@ -25,6 +35,7 @@ pub fn all() -> Vec<Example> {
         example("refused-10-transient", transient().bytes()),
         example("refused-11-same-word", with_word(gate(), 2, 1).bytes()),
         example("refused-12-never-reached", never_reached().bytes()),
+        example("refused-13-all-starts-ruled-out", lamp().never("!a").bytes()),
         example("refused-13-no-start", no_start().bytes()),
         example("refused-16-long-plan", counter(8, 32).bytes()),
         example("table-iv", table_iv().bytes()),
@@ -51,6 +62,42 @@ pub fn gate() -> File {
             (2, 1, "!d.c.!b.!a"),
         ],
     )
+}
+
+/// A press with a cutter: a is the start button, b closes with the cutter at the top, c at the bottom;
+/// both never close together. The cutter waits (0), cuts downwards (1), returns (2), and at the top
+/// waits for a button still held to be let go (3). With both contacts closed nothing moves.
+pub fn cutter() -> File {
+    File::new(
+        3,
+        3,
+        &[(0, "!a+!b+c"), (1, "b+!c"), (2, "!b+c"), (4, "a")],
+        &[(0, 1, "a.b.!c"), (1, 2, "!b.c"), (2, 0, "!a.b.!c"), (2, 3, "a.b.!c"), (3, 0, "!a")],
+    )
+    .never("b.c")
+}
+
+/// The cutter with an alarm (4) while both contacts are closed and until both are open: a state that
+/// no run can visit.
+pub fn cutter_alarm() -> File {
+    File::new(
+        3,
+        4,
+        &[(0, "!b+!a.!c"), (1, "!c"), (2, "!b"), (4, "a.!(b.c)"), (8, "b+c")],
+        &[
+            (0, 1, "a.b.!c"),
+            (1, 2, "!b.c"),
+            (2, 0, "!a.b.!c"),
+            (2, 3, "a.b.!c"),
+            (3, 0, "!a.!(b.c)"),
+            (0, 4, "b.c"),
+            (1, 4, "b.c"),
+            (2, 4, "b.c"),
+            (3, 4, "b.c"),
+            (4, 0, "!b.!c"),
+        ],
+    )
+    .never("b.c")
 }
 
 /// Source document 001, table IV: s1 to s5 are states 0 to 4. The words are the states' numbers.
@@ -86,11 +133,9 @@ pub fn counter(inputs: u8, states: u8) -> File {
         condition: on(source + 1).to_string(),
     };
     File {
-        inputs,
-        outputs: 16,
-        initial: 0,
         states: (0..states).map(state).collect(),
         evolutions: (0..states).map(leaving).collect(),
+        ..File::new(inputs, 16, &[], &[])
     }
 }
 
@@ -102,6 +147,19 @@ fn with_word(mut file: File, state: usize, word: u16) -> File {
 fn with_condition(mut file: File, record: usize, text: &str) -> File {
     *file.conditions_mut().nth(record).expect("the file has this record") = text.to_string();
     file
+}
+
+/// The bodies of a file under other kinds.
+fn with_kinds(file: File, kinds: &[u8]) -> Vec<u8> {
+    let bodies = kinds.iter().zip(file.bodies()).map(|(&kind, (_, body))| (kind, body));
+    with_contents(&bodies.collect::<Vec<_>>())
+}
+
+/// The lamp with two bodies more, the second of a kind that there is not.
+fn six_entries() -> Vec<u8> {
+    let mut bodies = lamp().never("0").bodies();
+    bodies.push((6, b"1".to_vec()));
+    with_contents(&bodies)
 }
 
 /// The lamp under the mark of another kind of file.

@@ -8,6 +8,8 @@ pub struct File {
     pub initial: u8,
     pub states: Vec<State>,
     pub evolutions: Vec<Leaving>,
+    /// The condition at which a setting is never used, if the file has one.
+    pub never: Option<String>,
 }
 
 /// A state: its output word and its rest condition.
@@ -27,7 +29,7 @@ pub struct Leaving {
 
 impl File {
     /// A specification from its states (word, rest) and evolutions (source, target, condition),
-    /// with initial state 0.
+    /// with initial state 0 and every setting used.
     pub fn new(
         inputs: u8,
         outputs: u8,
@@ -46,50 +48,58 @@ impl File {
             initial: 0,
             states: states.iter().map(state).collect(),
             evolutions: evolutions.iter().map(leaving).collect(),
+            never: None,
         }
     }
 
-    /// The conditions in the order of the records: states first, then evolutions.
-    pub fn conditions(&self) -> impl Iterator<Item = &str> {
-        let rests = self.states.iter().map(|state| state.rest.as_str());
-        rests.chain(self.evolutions.iter().map(|it| it.condition.as_str()))
+    /// The specification with settings that are never used: those at which the condition holds.
+    pub fn never(self, condition: &str) -> File {
+        File { never: Some(condition.to_string()), ..self }
     }
 
-    /// The conditions, to be changed.
+    /// The conditions in the order of the records, to be changed: states, evolutions, settings never used.
     pub fn conditions_mut(&mut self) -> impl Iterator<Item = &mut String> {
         let rests = self.states.iter_mut().map(|state| &mut state.rest);
-        rests.chain(self.evolutions.iter_mut().map(|it| &mut it.condition))
+        let leaving = self.evolutions.iter_mut().map(|it| &mut it.condition);
+        rests.chain(leaving).chain(&mut self.never)
     }
 
-    /// The file's bytes. A number too large for its bytes is written without its high part, so that
-    /// files beyond the limits can be made too.
+    /// The file's bytes.
     pub fn bytes(&self) -> Vec<u8> {
+        with_contents(&self.bodies())
+    }
+
+    /// The bodies with their kinds. A number too large for its bytes is written without its high
+    /// part, so that files beyond the limits can be made too.
+    pub fn bodies(&self) -> Vec<(u8, Vec<u8>)> {
         let sizes = vec![self.inputs, self.outputs, self.states.len() as u8, self.initial];
-        let mut states = Vec::new();
+        let (mut states, mut evolutions, mut texts) = (Vec::new(), Vec::new(), Vec::new());
         for state in &self.states {
             states.extend(state.word.to_le_bytes());
             states.push(state.rest.len() as u8);
+            texts.extend(state.rest.bytes());
         }
-        let mut evolutions = Vec::new();
         for it in &self.evolutions {
             evolutions.extend([it.source, it.target, it.condition.len() as u8]);
+            texts.extend(it.condition.bytes());
         }
-        let texts = self.conditions().collect::<String>().into_bytes();
-        with_contents(&[sizes, states, evolutions, texts])
+        let mut bodies = vec![(1, sizes), (2, states), (3, evolutions), (4, texts)];
+        bodies.extend(self.never.iter().map(|text| (5, text.clone().into_bytes())));
+        bodies
     }
 }
 
-/// A file of the given bodies, after its contents.
-fn with_contents(bodies: &[Vec<u8>]) -> Vec<u8> {
+/// A file of the given kinds and bodies, after its contents.
+pub fn with_contents(bodies: &[(u8, Vec<u8>)]) -> Vec<u8> {
     let mut file = b"SEQ1".to_vec();
     file.push(bodies.len() as u8);
     let mut offset = 5 + 5 * bodies.len();
-    for (body, kind) in bodies.iter().zip(1..) {
-        file.push(kind);
+    for (kind, body) in bodies {
+        file.push(*kind);
         file.extend((offset as u16).to_le_bytes());
         file.extend((body.len() as u16).to_le_bytes());
         offset += body.len();
     }
-    file.extend(bodies.concat());
+    file.extend(bodies.iter().flat_map(|(_, body)| body));
     file
 }

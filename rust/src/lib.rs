@@ -1,14 +1,14 @@
 //! The sheet maker from Rust: safe wrappers over the entry points of `include/mundrefol.h`.
 //!
-//! Beside them stands [`plain`], an implementation of the same jobs written from document 01 alone,
-//! with the same signatures; the tests compare the two, answers and buffers, element by element.
+//! Beside them stands [`plain`], an implementation of the same jobs written from documents 01 and 02
+//! alone, with the same signatures; the tests compare the two, answers and buffers, element by element.
 
 pub mod examples;
 pub mod file;
 pub mod generate;
 pub mod plain;
 
-use plain::ENTRIES;
+use plain::{ENTRIES, WORDS};
 
 /// The answer of a table job: number 0 is success, any other a refusal.
 #[repr(C)]
@@ -18,13 +18,15 @@ pub struct Answer {
     pub place: usize,
 }
 
-/// What a table job is told beside the table: the numbers of inputs and states, and the initial state.
+/// What a table job is told beside the table: the numbers of inputs and states, the initial state,
+/// and the settings never used; setting v is one if bit v % 64 of word v / 64 is 1.
 #[repr(C)]
 #[derive(Clone, Copy, Debug, Default, PartialEq, Eq)]
 pub struct Frame {
     pub inputs: usize,
     pub states: usize,
     pub initial: usize,
+    pub never: [u64; WORDS],
 }
 
 /// The answer of reading a file; outputs, evolutions and frame of the file, all zero on refusal.
@@ -78,8 +80,8 @@ pub struct Noted {
 /// The layouts of the header.
 const _: () = {
     assert!(size_of::<Answer>() == 2 * size_of::<usize>());
-    assert!(size_of::<Frame>() == 3 * size_of::<usize>());
-    assert!(size_of::<Contents>() == 7 * size_of::<usize>());
+    assert!(size_of::<Frame>() == 3 * size_of::<usize>() + 32);
+    assert!(size_of::<Contents>() == 4 * size_of::<usize>() + size_of::<Frame>());
     assert!(size_of::<Evolution>() == 6);
     assert!(size_of::<Entry>() == 6);
     assert!(size_of::<Log>() == 204);

@@ -9,6 +9,7 @@ const PRINTED: &str = "table 0 1 0 1
 plan 1 0 0 2 0 0 1 3 0 0 1 0
 run 0 1 0
 readings 0 1 1 0 0
+never 1 0 0
 log 34 33 32
 ";
 

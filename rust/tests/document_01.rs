@@ -81,7 +81,7 @@ fn lamp_file() {
         assert_eq!(bytes[6 + 5 * entry..8 + 5 * entry], *offset);
     }
     let Read { contents, table, words, records } = read(&bytes);
-    let frame = Frame { inputs: 1, states: 2, initial: 0 };
+    let frame = Frame { inputs: 1, states: 2, ..Frame::default() };
     let right = Contents { answer: Answer::done(0), outputs: 1, evolutions: 2, frame };
     assert_eq!(contents, right);
     assert_eq!(table[..5], [0, 1, 0, 1, 77]);

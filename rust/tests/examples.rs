@@ -155,11 +155,20 @@ fn the_program_refuses_long_files() {
     }
 }
 
+const CONTENTS_WRONG: &str =
+    "1: the file is too long or too short, or its mark, contents or end are wrong";
+
 /// What the script says of each refused example: the refusal's number, then its words.
-const EXPLAINED: [(&str, &str); 13] = [
+const EXPLAINED: [(&str, &str); 20] = [
+    ("refused-01-kind-4-twice", CONTENTS_WRONG),
+    ("refused-01-kinds-1-2-3-5", CONTENTS_WRONG),
+    ("refused-01-six-entries", CONTENTS_WRONG),
+    ("refused-01-wrong-mark", CONTENTS_WRONG),
     (
-        "refused-01-wrong-mark",
-        "1: the file is too long or too short, or its mark, contents or end are wrong",
+        "refused-02-long-kind-5",
+        "2: a size is outside its range, or the sizes do not agree with the bodies: \
+         inputs 1, outputs 1, states 2, initial state 0; \
+         the condition of kind 5, settings never used, has 256 bytes, over 255",
     ),
     (
         "refused-02-nine-inputs",
@@ -174,6 +183,14 @@ const EXPLAINED: [(&str, &str); 13] = [
         "refused-05-does-not-read",
         r#"5: the condition of evolution 1, from state 1 to 0, does not read: "!a+""#,
     ),
+    (
+        "refused-05-kind-5-does-not-read",
+        r#"5: the condition of kind 5, settings never used, does not read: "b.""#,
+    ),
+    (
+        "refused-05-kind-5-is-empty",
+        r#"5: the condition of kind 5, settings never used, does not read: """#,
+    ),
     ("refused-06-own-source", r#"6: evolution 2, from state 1 to 1, leads to its own source: "a""#),
     (
         "refused-07-same-states",
@@ -187,6 +204,10 @@ const EXPLAINED: [(&str, &str); 13] = [
     ),
     ("refused-11-same-word", "11: state 2 has the output word 1, as state 1 has"),
     ("refused-12-never-reached", "12: state 2 is never reached from the initial state 0"),
+    (
+        "refused-13-all-starts-ruled-out",
+        "13: there is no start: the initial state 0 rests at no setting that is left",
+    ),
     ("refused-13-no-start", "13: there is no start: the initial state 0 rests at no setting"),
     ("refused-16-long-plan", "16: the plan needs 80256 bytes, more than the 65536 there are"),
 ];

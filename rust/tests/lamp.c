@@ -1,4 +1,7 @@
-/* The lamp through the entry points, as C and as C++: layouts, reading, evolutions, marks, plan, run, readings, log. */
+/*
+ * The lamp through the entry points, as C and as C++: layouts, reading, evolutions, marks, plan, run,
+ * readings, log; and the lamp with a setting that is never used.
+ */
 
 #include <assert.h>
 #include <stdio.h>
@@ -10,10 +13,11 @@
 #define WORD sizeof(size_t)
 static_assert(sizeof(mundrefol_answer) == 2 * WORD, "answer");
 static_assert(offsetof(mundrefol_answer, place) == WORD, "answer.place");
-static_assert(sizeof(mundrefol_frame) == 3 * WORD, "frame");
+static_assert(sizeof(mundrefol_frame) == 3 * WORD + 32, "frame");
 static_assert(offsetof(mundrefol_frame, states) == WORD, "frame.states");
 static_assert(offsetof(mundrefol_frame, initial) == 2 * WORD, "frame.initial");
-static_assert(sizeof(mundrefol_contents) == 7 * WORD, "contents");
+static_assert(offsetof(mundrefol_frame, never) == 3 * WORD, "frame.never");
+static_assert(sizeof(mundrefol_contents) == 4 * WORD + sizeof(mundrefol_frame), "contents");
 static_assert(offsetof(mundrefol_contents, place) == WORD, "contents.place");
 static_assert(offsetof(mundrefol_contents, outputs) == 2 * WORD, "contents.outputs");
 static_assert(offsetof(mundrefol_contents, evolutions) == 3 * WORD, "contents.evolutions");
@@ -49,6 +53,22 @@ static const uint8_t lamp[47] = {
     '!', 'a', 'a', 'a', '!', 'a',
 };
 
+/* The lamp with the setting at which a is on ruled out. */
+static const uint8_t never_on[53] = {
+    'S', 'E', 'Q', '1', 5,
+    1, 30, 0, 4, 0, 2, 34, 0, 6, 0, 3, 40, 0, 6, 0, 4, 46, 0, 6, 0, 5, 52, 0, 1, 0,
+    1, 1, 2, 0,
+    0, 0, 2, 1, 0, 1,
+    0, 1, 1, 1, 0, 2,
+    '!', 'a', 'a', 'a', '!', 'a',
+    'a',
+};
+
+static int rules_out(mundrefol_frame frame, uint64_t first)
+{
+    return frame.never[0] == first && frame.never[1] == 0 && frame.never[2] == 0 && frame.never[3] == 0;
+}
+
 static void show(const char *what, const uint8_t *bytes, size_t count)
 {
     printf("%s", what);
@@ -62,7 +82,7 @@ static mundrefol_frame check_read(uint8_t table[5], uint16_t words[3], mundrefol
     mundrefol_contents contents = mundrefol_read(lamp, sizeof lamp, table, 5, words, 3, records, 3);
     mundrefol_frame frame = contents.frame;
     CHECK(contents.number == 0 && contents.place == 0 && contents.outputs == 1 && contents.evolutions == 2);
-    CHECK(frame.inputs == 1 && frame.states == 2 && frame.initial == 0);
+    CHECK(frame.inputs == 1 && frame.states == 2 && frame.initial == 0 && rules_out(frame, 0));
     CHECK(memcmp(table, "\0\1\0\1\x63", 5) == 0);
     CHECK(words[0] == 0 && words[1] == 1 && words[2] == 99);
     CHECK(records[0].source == 0 && records[0].target == 1 && records[0].at == 44 && records[0].length == 1);
@@ -125,6 +145,38 @@ static void check_readings(mundrefol_frame frame, const uint8_t *table, const ui
     printf("readings %d %d %d %d %d\n", readings[0], readings[1], readings[2], readings[3], readings[4]);
 }
 
+static void check_never(uint8_t *table, uint16_t *words, mundrefol_evolution *records)
+{
+    const uint8_t run[2] = {0, 1};
+    uint16_t ranks[4], readings[3] = {99, 99, 99};
+    uint8_t plan[4] = {99, 99, 99, 99};
+    mundrefol_contents contents = mundrefol_read(never_on, sizeof never_on, table, 4, words, 2, records, 2);
+    mundrefol_frame frame = contents.frame;
+    CHECK(contents.number == 0 && contents.place == 0 && contents.outputs == 1 && contents.evolutions == 2);
+    CHECK(frame.inputs == 1 && frame.states == 2 && frame.initial == 0 && rules_out(frame, 2));
+    CHECK(memcmp(table, "\0\1\0\1", 4) == 0 && words[1] == 1 && records[1].at == 50);
+    for (int beyond = 0; beyond < 2; beyond++) {
+        mundrefol_answer answer = mundrefol_mark(frame, table, 4, ranks, 4);
+        CHECK(answer.number == 0 && ranks[0] == 0 && ranks[1] == 65535 && ranks[2] == 65535 && ranks[3] == 65535);
+        answer = mundrefol_plan(frame, table, 4, ranks, 4, plan, 4);
+        CHECK(answer.number == 0 && answer.place == 3 && memcmp(plan, "\1\0\0\x63", 4) == 0);
+        answer = mundrefol_run_to(frame, table, 4, ranks, 4, 1, plan, 4);
+        CHECK(answer.number == 15 && answer.place == 0);
+        answer = mundrefol_expected(frame, table, 4, words, 2, run, 2, readings, 3);
+        CHECK(answer.number == 17 && answer.place == 1 && readings[0] == 99);
+        answer = mundrefol_expected(frame, table, 4, words, 2, run, 1, readings, 3);
+        CHECK(answer.number == 0 && answer.place == 1 && readings[0] == 0 && readings[1] == 99);
+        readings[0] = 99;
+        frame.never[0] |= 4;
+        frame.never[3] = UINT64_MAX;
+    }
+    show("never", plan, 3);
+    frame.never[0] = 1;
+    CHECK(mundrefol_mark(frame, table, 4, ranks, 4).number == 13);
+    CHECK(mundrefol_plan(frame, table, 4, ranks, 4, plan, 4).number == 13);
+    CHECK(mundrefol_expected(frame, table, 4, words, 2, run, 2, readings, 3).number == 17);
+}
+
 static void check_log(void)
 {
     mundrefol_log log;
@@ -152,6 +204,7 @@ int main(void)
     check_evolutions(records);
     check_runs(frame, table);
     check_readings(frame, table, words);
+    check_never(table, words, records);
     check_log();
     return 0;
 }

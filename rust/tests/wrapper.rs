@@ -131,13 +131,15 @@ fn two(file: &[u8], at: usize) -> usize {
 
 /// Words that the explanation of a refusal has: those of the couple or evolution, or the place.
 fn named(file: &[u8], number: usize, place: usize) -> String {
-    let states = || usize::from(file[27]);
+    let sizes = two(file, 6);
+    let states = || usize::from(file[sizes + 2]);
     match number {
         1 | 2 | 13 => String::new(),
         8..=10 => {
-            let settings = 1 << file[25];
+            let settings = 1 << file[sizes];
             format!("state {} at setting {} (", place / settings, place % settings)
         }
+        5 if place == states() + two(file, 18) / 3 => "the condition of kind 5, ".to_string(),
         4..=7 if place >= states() => {
             let evolution = place - states();
             let (source, target) =
@@ -149,17 +151,24 @@ fn named(file: &[u8], number: usize, place: usize) -> String {
     }
 }
 
-/// Conditions as they are shown, and settings by the inputs that are on.
+/// What the script says of a refused file, from the refusal's number on.
+fn explained(file: &File) -> String {
+    let path = PathBuf::from(env!("CARGO_TARGET_TMPDIR")).join("explained");
+    fs::write(&path, file.bytes()).expect("the file is written");
+    let said = words(&sheet(&root(), &[path.to_str().expect("the path is text")]));
+    let (_, said) = said.split_once(" is refused by ").expect("the file is refused");
+    said.trim_end().to_string()
+}
+
+/// Conditions as they are shown, and settings by the inputs that are on, without kind 5 and with it.
 #[test]
 fn words_of_a_refusal() {
-    let explained = |inputs: u8, rest: &str, condition: &str| {
-        let path = PathBuf::from(env!("CARGO_TARGET_TMPDIR")).join("explained");
-        let states = [(0, rest), (1, "1")];
-        let file = File::new(inputs, 1, &states, &[(0, 1, condition)]).bytes();
-        fs::write(&path, file).expect("the file is written");
-        let said = words(&sheet(&root(), &[path.to_str().expect("the path is text")]));
-        let (_, said) = said.split_once(" is refused by ").expect("the file is refused");
-        said.trim_end().to_string()
+    let file = |inputs: u8, rest: &str, condition: &str| {
+        File::new(inputs, 1, &[(0, rest), (1, "1")], &[(0, 1, condition)])
+    };
+    let both = |file: File, said: &str| {
+        assert_eq!(explained(&file), said);
+        assert_eq!(explained(&file.never("a+0")), said);
     };
     for (text, shown) in [
         ("", ""),
@@ -168,20 +177,37 @@ fn words_of_a_refusal() {
         ("$(no)`no`'\"%s\\", r#"$(no)`no`'"%s\5c"#),
         ("é", r"\c3\a9"),
     ] {
-        let rest = format!("5: the rest condition of state 0 does not read: \"{shown}\"");
-        assert_eq!(explained(1, text, "a"), rest);
-        let leaving = format!(
-            "5: the condition of evolution 0, from state 0 to 1, does not read: \"{shown}\""
-        );
-        assert_eq!(explained(1, "!a", text), leaving);
+        let unread = |what: &str| format!("5: the {what} does not read: \"{shown}\"");
+        both(file(1, text, "a"), &unread("rest condition of state 0"));
+        both(file(1, "!a", text), &unread("condition of evolution 0, from state 0 to 1,"));
+        let never = unread("condition of kind 5, settings never used,");
+        assert_eq!(explained(&file(1, "!a", "a").never(text)), never);
     }
     for (inputs, rest, place) in [
         (3, "!(a.!b.c)", "state 0 at setting 5 (a, c on)"),
         (8, "!h+!g+a", "state 0 at setting 192 (g, h on)"),
         (1, "a", "state 0 at setting 0 (no input on)"),
     ] {
-        assert_eq!(explained(inputs, rest, "0"), format!("9: no rule holds for {place}"));
+        both(file(inputs, rest, "0"), &format!("9: no rule holds for {place}"));
     }
+}
+
+/// Sizes and starts with kind 5: its length where that is over 255, and the settings that are left.
+#[test]
+fn words_of_kind_5() {
+    let sizes = |inputs: u8| {
+        format!(
+            "2: a size is outside its range, or the sizes do not agree with the bodies: \
+             inputs {inputs}, outputs 1, states 2, initial state 0"
+        )
+    };
+    let never = "the condition of kind 5, settings never used,";
+    let lamp = |inputs: u8, text: &str| File { inputs, ..examples::lamp() }.never(text);
+    assert_eq!(explained(&lamp(9, &"a".repeat(255))), sizes(9));
+    let long = format!("{}; {never} has 300 bytes, over 255", sizes(1));
+    assert_eq!(explained(&lamp(1, &"a".repeat(300))), long);
+    let no_start = "13: there is no start: the initial state 0 rests at no setting that is left";
+    assert_eq!(explained(&lamp(1, "!a")), no_start);
 }
 
 /// Whatever is wrong with a file: its refusal, and one line of plain characters that names the place.

@@ -1,1 +1,2 @@
-// Demand 3, over what marking and the plan leave in their buffers: no functions. It is stated in specs/ and proved in proofs/.
+// Demand 3, and keeping off the settings that are ruled out, over what marking and the plan leave in their buffers: no functions. Both
+// are stated in specs/ and proved in proofs/.

@@ -1,14 +1,15 @@
 -- A setting with one input flipped differs in that input alone, and two settings that differ in one input are such: by induction on the
 -- number of inputs.
-use mathlib.Core.Path.{_≡_, refl, sym, ap, ap₂, _∙_}
+use mathlib.Core.Path.{_≡_, refl, sym, ap, _∙_}
 use mathlib.Core.Logic.{⊎-elim}
 use Prim.Native.Nat.{ℕ, zero, suc, _+_, _*_, _-_, _/_, _%_, _^_, _≤_, _<_}
 use native.Mathlib.Nat.{mod-lt, div-lt-iff-lt-mul, div-eq-of-lt, mod-eq-of-lt, div-add-mod', add-mul, one-mul}
-use native.Mathlib.Numerals.{add-one, one-add}
+use native.Mathlib.Numerals.{add-one}
 use native.Mathlib.Omega.{arith}
 use lib.Dec.{eqb}
-use lib.Pow.{pow-pos, high, low, field, mod-mod-pow, shr-shr, mod-pow-add}
+use lib.Pow.{pow-pos, high, low, field, mod-mod-pow, shr-shr}
 use borrow.Author.Tests.{eq-eqb, ne-eqb}
+use Rattle.sets.proofs.Members.{same-bits}
 use Rattle.machine.specs.Couples.{input, differing}
 use Rattle.machine.specs.inner.Flips.{flipped}
 use Rattle.machine.proofs.Order.{below-or, equal-or}
@@ -19,13 +20,6 @@ low-input : (v n i : ℕ) → i < n → input (v % 2 ^ n) i ≡ input v i
 low-input v n i l =
     let e : n ≡ ((n - suc i) + 1) + i = omega arith in
     rw e (rw field (mod-mod-pow (v / 2 ^ i) (n - suc i) 1))
-
--- settings of n inputs that agree at each input are one
-same-inputs : (n v w : ℕ) → ((j : ℕ) → j < n → input v j ≡ input w j) → v % 2 ^ n ≡ w % 2 ^ n
-same-inputs zero v w all = omega arith
-same-inputs (suc n) v w all =
-    let step : (x : ℕ) → x % 2 ^ suc n ≡ input x n * 2 ^ n + x % 2 ^ n = λ x. rw (← one-add n) (mod-pow-add x 1 n) in
-    rw (step v, step w) (ap₂ (λ (a b : ℕ). a * 2 ^ n + b) (all n (omega arith)) (same-inputs n v w (λ j l. all j (omega arith))))
 
 toggled : ℕ → ℕ
 toggled q = cond (eqb (q % 2) 0) (q + 1) (q - 1)
@@ -152,7 +146,7 @@ one-differs (suc n) v w e = ⊎-elim
 -- one differing input is one flipped input
 pub differs-flip : (n v w : ℕ) → v < 2 ^ n → w < 2 ^ n → differing n v w ≡ 1 → (i : ℕ) × (i < n) × (w ≡ flipped v (2 ^ i))
 unfolding turned
-differs-flip n v w hv hw e = (i, o .low, sym (mod-eq-of-lt hw) ∙ same-inputs n w f all ∙ mod-eq-of-lt (flip-small n v i (o .low) hv))
+differs-flip n v w hv hw e = (i, o .low, sym (mod-eq-of-lt hw) ∙ same-bits n w f all ∙ mod-eq-of-lt (flip-small n v i (o .low) hv))
   where
     o : OneDiffers n v w
     o = one-differs n v w e

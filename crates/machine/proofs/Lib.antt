@@ -16,5 +16,8 @@ pub mod Small
 pub mod Rounds
 pub mod Flips
 pub mod Faults
+pub mod Ruled
+pub mod Bare
+pub mod Beyond
 pub mod Certificate
 pub mod Once

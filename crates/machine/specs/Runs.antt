@@ -2,10 +2,11 @@
 use mathlib.Core.Path.{_≡_}
 use mathlib.Core.Logic.{_⊎_}
 use mathlib.Core.List.{List, [], _∷_}
-use mathlib.Core.Bool.{Bool, true}
-use Prim.Native.Nat.{ℕ, suc, _*_, _^_, _≤_, _<_}
+use mathlib.Core.Bool.{Bool, true, false, not, _&&_}
+use Prim.Native.Nat.{ℕ, suc, _*_, _%_, _^_, _≤_, _<_}
 use lib.ListN.{getD, length}
 use lib.Dec.{eqb}
+use Rattle.sets.specs.Sets.{member}
 use Rattle.machine.specs.Limits.{unmarked}
 use Rattle.machine.specs.Lists.{In}
 use Rattle.machine.specs.Couples.{coupleAt, differing}
@@ -21,16 +22,36 @@ pub record Machine : Type 0 where
   pub mayStart : ℕ → Bool
   pub mayChange : ℕ → ℕ → Bool
 
--- the machine of a frame and a table: a run may start at any setting, and each change is of exactly one input
+-- a setting that a frame does not rule out
+abbrev pub usable : Frame → ℕ → Bool
+usable f v = not (member (f .never) v)
+
+-- the machine of a frame and a table: a run may start at any setting that is not ruled out, and each change is of exactly one input, to
+-- a setting that is not
 abbrev pub machineOf : Frame → List ℕ → Machine
 machineOf f table = record {
   inputs = f .inputs;
   states = f .states;
   initial = f .initial;
   table = table;
-  mayStart = λ v. true;
-  mayChange = λ v w. eqb (differing (f .inputs) v w) 1;
+  mayStart = λ v. usable f v;
+  mayChange = λ v w. usable f w && eqb (differing (f .inputs) v w) 1;
 }
+
+-- the machine of sizes and a table alone: a run may start at any setting, and each change is of exactly one input
+abbrev pub bareMachine : ℕ → ℕ → ℕ → List ℕ → Machine
+bareMachine inputs states initial table = record {
+  inputs = inputs;
+  states = states;
+  initial = initial;
+  table = table;
+  mayStart = λ v. true;
+  mayChange = λ v w. eqb (differing inputs v w) 1;
+}
+
+-- the couple c is one of a setting that a frame rules out
+abbrev pub RuledOut : Frame → ℕ → Type 0
+RuledOut f c = usable f (c % 2 ^ f .inputs) ≡ false
 
 -- how many settings there are, and how many couples
 abbrev pub size : Machine → ℕ

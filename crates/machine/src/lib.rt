@@ -3,13 +3,16 @@ ghost use mathlib.Core.Path.{_≡_};
 ghost use Prim.Native.Nat.{_<_, _≤_, _^_};
 ghost use Rattle.verdict.specs.Checks.{Decides};
 ghost use Rattle.machine.specs.Limits.{mostInputs, mostSettings, Sized};
+ghost use Rattle.machine.specs.Runs.{usable as isUsable};
+use sets::WORDS;
 
-// What a table job is told beside the table.
+// What a table job is told beside the table: the sizes, and the set of the settings that are ruled out.
 #[repr(C)]
 pub struct Frame {
     pub inputs: usize,
     pub states: usize,
     pub initial: usize,
+    pub never: [u64; WORDS],
 }
 
 // Inputs.
@@ -52,4 +55,12 @@ pub fn sized(frame: Frame) -> bool
         return false;
     }
     frame.initial < frame.states
+}
+
+// Whether a run may use a setting: the frame does not rule it out.
+pub fn usable(frame: Frame, setting: usize) -> bool
+    ensures { λ r. ⌜ r ≡ isUsable frame setting ⌝ }
+{
+    let never = frame.never;
+    !sets::has(never, setting)
 }

@@ -3,7 +3,6 @@
 use mathlib.Core.Path.{_≡_, refl, sym, ap, subst, _∙_}
 use mathlib.Core.Logic.{_⊎_, inl, inr}
 use mathlib.Core.List.{List}
-use mathlib.Core.Bool.{true}
 use Prim.Native.Nat.{ℕ, zero, suc, _+_, _*_, _≤_, _<_}
 use native.Mathlib.Nat.{suc-mul, mul-le-mul-right, div-lt-iff-lt-mul}
 use native.Mathlib.Omega.{arith}
@@ -15,7 +14,7 @@ use Rattle.machine.specs.Limits.{unmarked}
 use Rattle.machine.specs.Runs.{Machine, size, couples, Rank, RankOrUnmarked}
 use Rattle.machine.specs.Shortest.{ParentOrNone}
 use Rattle.machine.specs.inner.Model.{Listed}
-use Rattle.marking.specs.inner.Queue.{Room, Pushed, ByRest, ByStart, Spreads, Rows, Leveled, Ready, Levels}
+use Rattle.marking.specs.inner.Queue.{Room, Pushed, ByRest, ByStarts, Spreads, Rows, Leveled, Ready, Levels}
 use Rattle.machine.proofs.Flips.{Single}
 use Rattle.machine.proofs.Sizes.{couples-few}
 use Rattle.marking.proofs.Levels.{levels-small, levels-free, levels-next, levels-last, levels-start}
@@ -43,8 +42,8 @@ module _ {m : Machine} {z : ℕ} {R₀ P₀ : List ℕ} (ready : Ready m R₀ P�
   first-row : m .initial * z + z ≤ m .states * z
   first-row = let e = suc-mul (m .initial) z in omega (arith, mul-le-mul-right z (ready .checked .sound .begins))
 
-  pub first-low : (m .initial * z + z ≤ length (m .table)) × (m .initial * z + z ≤ length R₀)
-  first-low = (omega (arith, first-row, rows .table-long), omega (arith, first-row, total, ready .exact .ranks-are))
+  pub first-low : m .initial * z + z ≤ length R₀
+  first-low = omega (arith, first-row, total, ready .exact .ranks-are)
 
   pub room-empty : {Q : List ℕ} → length R₀ ≤ length Q → Room R₀ P₀ Q 0
   room-empty l = record {
@@ -56,8 +55,8 @@ module _ {m : Machine} {z : ℕ} {R₀ P₀ : List ℕ} (ready : Ready m R₀ P�
     marked = λ i o. absurd (omega arith);
   }
 
-  pub fill-first : ((v : ℕ) → m .mayStart v ≡ true) → {Q₀ R P Q : List ℕ} {tail : ℕ} → Pushed (ByStart (m .table) z (m .initial) z) 0 0 R₀ P₀ Q₀ 0 R P Q tail → Levels m 0 0 R P Q tail
-  fill-first free {Q₀} {R} {P} {Q} {tail} x = levels-start free ready (subst (λ (y : ℕ). Pushed (ByStart (m .table) y (m .initial) y) 0 0 R₀ P₀ Q₀ 0 R P Q tail) are x)
+  pub fill-first : {Q₀ R P Q : List ℕ} {tail : ℕ} → Pushed (ByStarts m z z) 0 0 R₀ P₀ Q₀ 0 R P Q tail → Levels m 0 0 R P Q tail
+  fill-first {Q₀} {R} {P} {Q} {tail} x = levels-start ready (subst (λ (y : ℕ). Pushed (ByStarts m y y) 0 0 R₀ P₀ Q₀ 0 R P Q tail) are x)
 
   module _ {k a tail : ℕ} {R P Q : List ℕ} (x : Levels m k a R P Q tail) where
     pub fill-long : length R ≡ length R₀
@@ -75,9 +74,9 @@ module _ {m : Machine} {z : ℕ} {R₀ P₀ : List ℕ} (ready : Ready m R₀ P�
       small = levels-small (ready .checked .sound) x h;
     }
 
-    pub fill-next : Single m → {tail′ : ℕ} {R′ P′ Q′ : List ℕ} → a < tail → Spreads (ByRest (m .table) z (m .inputs)) k a tail tail R P Q R′ P′ Q′ tail′ → Levels m (k + 1) tail R′ P′ Q′ tail′
-    fill-next ones {tail′} {R′} {P′} {Q′} h y =
-        levels-next (ready .checked .sound) x ones h (subst (λ (w : ℕ). Spreads (ByRest (m .table) w (m .inputs)) k a tail tail R P Q R′ P′ Q′ tail′) are y)
+    pub fill-next : Single m → {tail′ : ℕ} {R′ P′ Q′ : List ℕ} → a < tail → Spreads (ByRest m z) k a tail tail R P Q R′ P′ Q′ tail′ → Levels m (k + 1) tail R′ P′ Q′ tail′
+    fill-next single {tail′} {R′} {P′} {Q′} h y =
+        levels-next (ready .checked .sound) x single h (subst (λ (w : ℕ). Spreads (ByRest m w) k a tail tail R P Q R′ P′ Q′ tail′) are y)
 
     parent : (c : ℕ) → c < couples m → Listed m R P → RankOrUnmarked m c (getD R c 0) → ParentOrNone m c (getD P c 0)
     parent c l listed w = record { parent = λ r. listed .parent r c; none = λ never. x .orphan c (rw (x .total) l) (bare (getD R c 0) refl w never) }

@@ -3,7 +3,6 @@
 use mathlib.Core.Path.{_≡_, refl, sym, ap, subst, subst₂, _∙_}
 use mathlib.Core.Logic.{_⊎_, ⊎-elim, inl, inr}
 use mathlib.Core.List.{List}
-use mathlib.Core.Bool.{true}
 use Prim.Native.Nat.{ℕ, suc, _+_, _/_, _≤_, _<_, zero-le}
 use native.Mathlib.Nat.{le-refl, lt-of-lt-of-le}
 use native.Mathlib.Numerals.{add-one}
@@ -22,7 +21,7 @@ use Rattle.machine.proofs.Small.{pigeons}
 use Rattle.machine.proofs.Tests.{whole}
 use Rattle.machine.proofs.Flips.{Single, flip-steps, steps-flip}
 use Rattle.machine.proofs.Rounds.{level-start, level-next, level-last}
-use Rattle.marking.specs.inner.Queue.{Offer, Room, Fresh, Pushed, ByRest, Expanded, Between, Spreads, ByStart, Ready, Levels}
+use Rattle.marking.specs.inner.Queue.{Offer, Room, Fresh, Pushed, ByRest, Expanded, Between, Spreads, ByStarts, Ready, Levels}
 use Rattle.marking.specs.inner.Queue.Offer.{given, lower, same}
 use Rattle.marking.specs.inner.Queue.Expanded.{had, got, left}
 
@@ -103,13 +102,13 @@ module _ {Leads : ℕ → ℕ → Type 0} {k a e : ℕ} {R P Q : List ℕ} where
       go (left g never i o) = none g (λ q b z r. never q (f .all q (rw t b) r) (of q c z)) i
 
 module _ {m : Machine} where
-  by-steps : Single m → (p c : ℕ) → ByRest (m .table) (size m) (m .inputs) p c → Steps m p c
-  by-steps ones p c (e, (j, l, x)) = flip-steps ones p c j (ap (λ (y : ℕ). getD (m .table) y 0) (sym (whole m p)) ∙ e) l x
+  by-steps : (p c : ℕ) → ByRest m (size m) p c → Steps m p c
+  by-steps p c (e, (j, l, (a, x))) = flip-steps p c j (ap (λ (y : ℕ). getD (m .table) y 0) (sym (whole m p)) ∙ e) l (record { allowed = a; visits = x })
 
-  steps-by : Single m → (p c : ℕ) → Steps m p c → ByRest (m .table) (size m) (m .inputs) p c
-  steps-by ones p c x =
-      let (j, l, y) = steps-flip ones p c x in
-      (ap (λ (y : ℕ). getD (m .table) y 0) (x .here) ∙ x .rests ∙ sym (ap (λ (y : ℕ). y / size m) (x .here) ∙ high (x .state) (m .inputs) (x .below)), (j, l, y))
+  steps-by : Single m → (p c : ℕ) → Steps m p c → ByRest m (size m) p c
+  steps-by single p c x =
+      let (j, l, y) = steps-flip single p c x in
+      (ap (λ (y : ℕ). getD (m .table) y 0) (x .here) ∙ x .rests ∙ sym (ap (λ (y : ℕ). y / size m) (x .here) ∙ high (x .state) (m .inputs) (x .below)), (j, l, (y .allowed, y .visits)))
 
   module _ (ok : Sound m) {k a tail : ℕ} {R P Q : List ℕ} (x : Levels m k a R P Q tail) where
     few : couples m ≤ unmarked
@@ -125,9 +124,9 @@ module _ {m : Machine} where
         go (ranked y b p) = omega arith
         go (unranked f y) = omega (arith, levels-small h)
 
-    pub levels-next : Single m → {tail′ : ℕ} {R′ P′ Q′ : List ℕ} → a < tail → Spreads (ByRest (m .table) (size m) (m .inputs)) k a tail tail R P Q R′ P′ Q′ tail′ → Levels m (k + 1) tail R′ P′ Q′ tail′
-    levels-next ones {tail′} {R′} {P′} {Q′} h y = record {
-      level = rw (add-one k) (level-next ok k R P (x .level) few (omega (arith, levels-small h)) R′ P′ (spreads-round (by-steps ones) (steps-by ones) (x .total) (x .room) (x .fresh) y));
+    pub levels-next : Single m → {tail′ : ℕ} {R′ P′ Q′ : List ℕ} → a < tail → Spreads (ByRest m (size m)) k a tail tail R P Q R′ P′ Q′ tail′ → Levels m (k + 1) tail R′ P′ Q′ tail′
+    levels-next single {tail′} {R′} {P′} {Q′} h y = record {
+      level = rw (add-one k) (level-next ok k R P (x .level) few (omega (arith, levels-small h)) R′ P′ (spreads-round by-steps (steps-by single) (x .total) (x .room) (x .fresh) y));
       room = y .room;
       fresh = rw (add-one k) (y .fresh);
       deep = omega (arith, x .deep);
@@ -135,7 +134,7 @@ module _ {m : Machine} where
       orphan = λ c l. orphan c (rw (y .same-length) at l) (y .expanded c (rw (y .same-length) at l));
     }
       where
-        orphan : (c : ℕ) → c < length R → Expanded (ByRest (m .table) (size m) (m .inputs)) (Between Q a tail) k R P R′ P′ c → (getD R′ c 0 ≡ 0) ⊎ (getD R′ c 0 ≡ unmarked) → getD P′ c 0 ≡ 0
+        orphan : (c : ℕ) → c < length R → Expanded (ByRest m (size m)) (Between Q a tail) k R P R′ P′ c → (getD R′ c 0 ≡ 0) ⊎ (getD R′ c 0 ≡ unmarked) → getD P′ c 0 ≡ 0
         orphan c l (had ne e f) w = f ∙ x .orphan c l (⊎-elim (λ z. inl (sym e ∙ z)) (λ z. inr (sym e ∙ z)) w)
         orphan c l (got g s v o e) w = absurd (⊎-elim (λ (z : getD R′ c 0 ≡ 0). omega arith) (λ (z : getD R′ c 0 ≡ unmarked). omega (arith, levels-small h)) w)
         orphan c l (left g never e f) w = f ∙ x .orphan c l (inr g)
@@ -144,8 +143,8 @@ module _ {m : Machine} where
     levels-last h = level-last ok k R P (x .level) few (λ c l e. let (j, u, v, w) = x .fresh .all c (rw (x .total) l) e in omega arith)
 
   -- the starts
-  pub levels-start : {R₀ P₀ Q₀ R P Q : List ℕ} {tail : ℕ} → ((v : ℕ) → m .mayStart v ≡ true) → Ready m R₀ P₀ → Pushed (ByStart (m .table) (size m) (m .initial) (size m)) 0 0 R₀ P₀ Q₀ 0 R P Q tail → Levels m 0 0 R P Q tail
-  levels-start {R₀} {P₀} {Q₀} {R} {P} free y x = record {
+  pub levels-start : {R₀ P₀ Q₀ R P Q : List ℕ} {tail : ℕ} → Ready m R₀ P₀ → Pushed (ByStarts m (size m) (size m)) 0 0 R₀ P₀ Q₀ 0 R P Q tail → Levels m 0 0 R P Q tail
+  levels-start {R₀} {P₀} {Q₀} {R} {P} y x = record {
     level = level-start (y .checked .sound) R P (λ c l. started c l (x .offer c));
     room = x .room;
     fresh = x .fresh 0 (record { from = zero-le; new = λ j u v. absurd (omega arith); all = λ c l e. absurd (omega (arith, y .ranks-blank c (rw (← y .exact .ranks-are) l))) });
@@ -154,12 +153,12 @@ module _ {m : Machine} where
     orphan = λ c l w. orphan c (rw (← y .exact .ranks-are) (rw (x .same-length) at l)) (x .offer c);
   }
     where
-      started : (c : ℕ) → c < couples m → Offer (ByStart (m .table) (size m) (m .initial) (size m)) 0 0 R₀ P₀ R P c → (Begins m c × (getD R c 0 ≡ 0)) ⊎ ((Begins m c → ⊥) × (getD R c 0 ≡ unmarked))
-      started c l (given (v, h, (r, e)) f g o) = inl ((v, record { below = h; rests = r; allowed = free v }, e), g)
+      started : (c : ℕ) → c < couples m → Offer (ByStarts m (size m) (size m)) 0 0 R₀ P₀ R P c → (Begins m c × (getD R c 0 ≡ 0)) ⊎ ((Begins m c → ⊥) × (getD R c 0 ≡ unmarked))
+      started c l (given (v, h, (s, e)) f g o) = inl ((v, s, e), g)
       started c l (lower b f o g u) = absurd (omega (arith, y .ranks-blank c l))
-      started c l (same u v g o) = inr (λ (w, s, e). u (w, s .below, (s .rests, e)) (y .ranks-blank c l), g ∙ y .ranks-blank c l)
+      started c l (same u v g o) = inr (λ (w, s, e). u (w, s .below, (s, e)) (y .ranks-blank c l), g ∙ y .ranks-blank c l)
 
-      orphan : (c : ℕ) → c < couples m → Offer (ByStart (m .table) (size m) (m .initial) (size m)) 0 0 R₀ P₀ R P c → getD P c 0 ≡ 0
+      orphan : (c : ℕ) → c < couples m → Offer (ByStarts m (size m) (size m)) 0 0 R₀ P₀ R P c → getD P c 0 ≡ 0
       orphan c l (given b f g o) = o
       orphan c l (lower b f o g u) = u
       orphan c l (same u v g o) = o ∙ y .parents-blank c l

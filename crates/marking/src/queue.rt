@@ -1,19 +1,22 @@
 // Marking by a queue: couples enter it when they get a rank, so that those of one rank stand side by side and are expanded together.
 ghost use mathlib.Core.Path.{_≡_};
 ghost use Prim.Native.Nat.{ℕ, _+_, _*_, _^_, _≤_, _<_};
-ghost use lib.ListN.{length, getD};
+ghost use lib.ListN.{length};
 ghost use Rattle.verdict.specs.Buffers.{Filled};
 ghost use Rattle.machine.specs.Limits.{mostSettings, unmarked};
 ghost use Rattle.machine.specs.inner.Flips.{flipped};
 ghost use Rattle.machine.specs.Runs.{machineOf, RankOrUnmarked};
 ghost use Rattle.machine.specs.Shortest.{ParentOrNone};
-ghost use Rattle.marking.specs.inner.Queue.{Room, Pushed, ByChange, ByInputs, ByRest, ByStart, Spreads, Targets, Expands, Leveled, Ready};
+ghost use Rattle.tables.specs.Tables.{Tabled};
+ghost use Rattle.marking.specs.inner.Queue.{Room, Pushed, ByChange, ByInputs, ByRest, ByStart, ByStarts, Spreads, Targets, Expands, Leveled, Ready};
 use basics::long;
 use basics::narrow;
 use basics::wide;
 use machine::COUPLES;
 use machine::Frame;
 use machine::UNMARKED;
+use machine::usable;
+use tables::is_start;
 
 // A machine's frame, and how many settings it has.
 struct Sizes {
@@ -88,7 +91,7 @@ fn change(
     push(ranks, parents, queue, between, moved, offer)
 }
 
-// From a couple, a change of each input.
+// From a couple, a change of each input, to a setting that is not ruled out.
 fn expand(
     table: &[u8],
     ranks: &mut [u16],
@@ -100,8 +103,9 @@ fn expand(
     rank: u16,
 ) -> usize
     requires { ⌜ Expands (now table) (now ranks) (now parents) (now queue) (sizes .settings) (sizes .frame .inputs) tail couple rank ⌝ }
-    ensures { λ end. ⌜ Pushed (ByInputs (now (table .entry)) (sizes .settings) couple (sizes .frame .inputs)) rank couple (now (ranks .entry)) (now (parents .entry)) (now (queue .entry)) tail (now (ranks .exit)) (now (parents .exit)) (now (queue .exit)) end ⌝ }
+    ensures { λ end. ⌜ Pushed (ByInputs (machineOf (sizes .frame) (now (table .entry))) (sizes .settings) couple (sizes .frame .inputs)) rank couple (now (ranks .entry)) (now (parents .entry)) (now (queue .entry)) tail (now (ranks .exit)) (now (parents .exit)) (now (queue .exit)) end ⌝ }
 {
+    let frame = sizes.frame;
     let state = couple / sizes.settings;
     let setting = couple % sizes.settings;
     let offer = Offered {
@@ -111,11 +115,13 @@ fn expand(
     let mut end = tail;
     let mut weight: usize = 1;
     let mut i: usize = 0;
-    while i < sizes.frame.inputs {
+    while i < frame.inputs {
         let to = flip(setting, weight);
-        end = change(table, ranks, parents, queue, end, sizes, state, to, offer);
         weight = weight * 2;
         i += 1;
+        if usable(frame, to) {
+            end = change(table, ranks, parents, queue, end, sizes, state, to, offer);
+        }
     }
     end
 }
@@ -132,7 +138,7 @@ fn take(
     rank: u16,
 ) -> usize
     requires { ⌜ Expands (now table) (now ranks) (now parents) (now queue) (sizes .settings) (sizes .frame .inputs) tail couple rank ⌝ }
-    ensures { λ end. ⌜ Pushed (ByRest (now (table .entry)) (sizes .settings) (sizes .frame .inputs) couple) rank couple (now (ranks .entry)) (now (parents .entry)) (now (queue .entry)) tail (now (ranks .exit)) (now (parents .exit)) (now (queue .exit)) end ⌝ }
+    ensures { λ end. ⌜ Pushed (ByRest (machineOf (sizes .frame) (now (table .entry))) (sizes .settings) couple) rank couple (now (ranks .entry)) (now (parents .entry)) (now (queue .entry)) tail (now (ranks .exit)) (now (parents .exit)) (now (queue .exit)) end ⌝ }
 {
     if wide(table[couple]) == couple / sizes.settings {
         return expand(table, ranks, parents, queue, tail, sizes, couple, rank);
@@ -152,7 +158,7 @@ fn level(
     rank: u16,
 ) -> usize
     requires { ⌜ Leveled (now table) (now ranks) (now parents) (now queue) (sizes .settings) (sizes .frame .inputs) rank from to ⌝ }
-    ensures { λ end. ⌜ Spreads (ByRest (now (table .entry)) (sizes .settings) (sizes .frame .inputs)) rank from to to (now (ranks .entry)) (now (parents .entry)) (now (queue .entry)) (now (ranks .exit)) (now (parents .exit)) (now (queue .exit)) end ⌝ }
+    ensures { λ end. ⌜ Spreads (ByRest (machineOf (sizes .frame) (now (table .entry))) (sizes .settings)) rank from to to (now (ranks .entry)) (now (parents .entry)) (now (queue .entry)) (now (ranks .exit)) (now (parents .exit)) (now (queue .exit)) end ⌝ }
 {
     let mut tail = to;
     let mut head = from;
@@ -164,20 +170,22 @@ fn level(
     tail
 }
 
-// A couple of the initial state: where it is at rest, a run may start there.
+// Where a setting is a start, its couple of the initial state.
 fn give_start(
     table: &[u8],
     ranks: &mut [u16],
     parents: &mut [u16],
     queue: &mut [u16],
     tail: usize,
-    couple: usize,
-    initial: usize,
+    sizes: Sizes,
+    setting: usize,
 ) -> usize
-    requires { ⌜ Room (now ranks) (now parents) (now queue) tail × (couple < length (now table)) × (couple < length (now ranks)) ⌝ }
-    ensures { λ end. ⌜ Pushed (λ (d : ℕ). (getD (now (table .entry)) couple 0 ≡ initial) × (d ≡ couple)) 0 0 (now (ranks .entry)) (now (parents .entry)) (now (queue .entry)) tail (now (ranks .exit)) (now (parents .exit)) (now (queue .exit)) end ⌝ }
+    requires { ⌜ Room (now ranks) (now parents) (now queue) tail × Tabled (machineOf (sizes .frame) (now table)) × (sizes .frame .initial * sizes .settings + setting < length (now ranks)) ⌝ }
+    ensures { λ end. ⌜ Pushed (ByStart (machineOf (sizes .frame) (now (table .entry))) (sizes .settings) setting) 0 0 (now (ranks .entry)) (now (parents .entry)) (now (queue .entry)) tail (now (ranks .exit)) (now (parents .exit)) (now (queue .exit)) end ⌝ }
 {
-    if wide(table[couple]) == initial {
+    let frame = sizes.frame;
+    if is_start(frame, table, setting) {
+        let couple = frame.initial * sizes.settings + setting;
         let offer = Offered { rank: 0, parent: 0 };
         return push(ranks, parents, queue, tail, couple, offer);
     }
@@ -189,17 +197,15 @@ fn give_starts(
     ranks: &mut [u16],
     parents: &mut [u16],
     queue: &mut [u16],
-    settings: usize,
-    initial: usize,
+    sizes: Sizes,
 ) -> usize
-    requires { ⌜ Room (now ranks) (now parents) (now queue) 0 × (initial * settings + settings ≤ length (now table)) × (initial * settings + settings ≤ length (now ranks)) ⌝ }
-    ensures { λ end. ⌜ Pushed (ByStart (now (table .entry)) settings initial settings) 0 0 (now (ranks .entry)) (now (parents .entry)) (now (queue .entry)) 0 (now (ranks .exit)) (now (parents .exit)) (now (queue .exit)) end ⌝ }
+    requires { ⌜ Room (now ranks) (now parents) (now queue) 0 × Tabled (machineOf (sizes .frame) (now table)) × (sizes .frame .initial * sizes .settings + sizes .settings ≤ length (now ranks)) ⌝ }
+    ensures { λ end. ⌜ Pushed (ByStarts (machineOf (sizes .frame) (now (table .entry))) (sizes .settings) (sizes .settings)) 0 0 (now (ranks .entry)) (now (parents .entry)) (now (queue .entry)) 0 (now (ranks .exit)) (now (parents .exit)) (now (queue .exit)) end ⌝ }
 {
-    let row = initial * settings;
     let mut tail: usize = 0;
     let mut v: usize = 0;
-    while v < settings {
-        tail = give_start(table, ranks, parents, queue, tail, row + v, initial);
+    while v < sizes.settings {
+        tail = give_start(table, ranks, parents, queue, tail, sizes, v);
         v += 1;
     }
     tail
@@ -211,14 +217,7 @@ fn levels(sizes: Sizes, table: &[u8], ranks: &mut [u16], parents: &mut [u16], qu
     ensures ranks { λ _. ⌜ Filled (sizes .frame .states * 2 ^ sizes .frame .inputs) (RankOrUnmarked (machineOf (sizes .frame) (now (table .entry)))) (now (ranks .entry)) (now (ranks .exit)) ⌝ }
     ensures parents { λ _. ⌜ Filled (sizes .frame .states * 2 ^ sizes .frame .inputs) (ParentOrNone (machineOf (sizes .frame) (now (table .entry)))) (now (parents .entry)) (now (parents .exit)) ⌝ }
 {
-    let mut tail = give_starts(
-        table,
-        ranks,
-        parents,
-        queue,
-        sizes.settings,
-        sizes.frame.initial,
-    );
+    let mut tail = give_starts(table, ranks, parents, queue, sizes);
     let mut from: usize = 0;
     let mut rank: u16 = 0;
     while from < tail {

@@ -13,8 +13,10 @@ use crate::lines::values;
 use crate::lines::word;
 use specification::Contents;
 
-// The bytes of the lamp's file.
+// The bytes of the lamp's file, and of the lamp's with a kind 5.
 pub(crate) const LAMP: usize = 47;
+
+pub(crate) const RULED: usize = LAMP + 6;
 
 pub(crate) fn rows() {
     whole();
@@ -24,11 +26,12 @@ pub(crate) fn rows() {
     records();
     rules();
     order();
+    never();
 }
 
 // The lamp and the gate, and the shortest file that reads: one state, at rest at `1`.
 fn whole() {
-    lamp(b"lamp file", b"");
+    lamp(b"lamp file", false, b"");
     let mut table = [7u8; 49];
     let mut words = [7u16; 4];
     lent(
@@ -50,6 +53,7 @@ fn whole() {
 // Refusal 1.
 fn contents() {
     lamps(
+        false,
         b"
         mark: 3'9
         count: 4=5
@@ -69,6 +73,7 @@ fn contents() {
 // Refusal 2, and the sizes beside those that it refuses.
 fn sizes() {
     lamps(
+        false,
         b"
         no inputs: 25=0
         8 inputs, table of 5: 25=8
@@ -87,14 +92,16 @@ fn sizes() {
 
 // Refusal 3.
 fn room() {
-    lamp_into(b"table of 3", b"", 3, 2);
-    lamp_into(b"words of 1", b"", 4, 1);
-    lamp_into(b"table of 3, words of 1", b"", 3, 1);
+    let mut file = lamp_file();
+    lamp_into(b"table of 3", &mut file, b"", 3, 2);
+    lamp_into(b"words of 1", &mut file, b"", 4, 1);
+    lamp_into(b"table of 3, words of 1", &mut file, b"", 3, 1);
 }
 
 // Refusals 4 to 7.
 fn records() {
     lamps(
+        false,
         b"
         output bit 1 of 1: 32=2
         output bit 8 of 1: 30=1
@@ -112,6 +119,7 @@ fn records() {
 // Refusals 8 to 13.
 fn rules() {
     lamps(
+        false,
         b"
         rest !0 and a: 42'0
         rest !1 and a: 42'1
@@ -127,6 +135,7 @@ fn rules() {
 // Two faults in one file: each check runs over the whole of it before the next.
 fn order() {
     lamps(
+        false,
         b"
         1 before 2: 3'9 25=9
         2 before 4: 28=2 32=2
@@ -150,33 +159,62 @@ fn order() {
     );
 }
 
-// The lamp with bytes changed, a row to a line: its name, a colon, then the changes as `changes` reads them.
-fn lamps(rows: &[u8]) {
+// The lamp with a kind 5, `a` where nothing else is said.
+fn never() {
+    lamps(
+        true,
+        b"
+        kind 5:
+        kind 5 that holds nowhere: 52'0
+        kind 5 that holds everywhere: 52'1
+        kind 5 that does not read: 52'+
+        kind 5 that is empty: 23=7 26=53 28=0 45=3 50'a 51'+
+        kinds 1 2 3 4 4: 25=4
+        kinds 1 2 3 5 5: 20=5
+        kinds 1 2 3 4 6: 25=6
+        count 4 and a fifth entry: 4=4
+        count 6: 4=6
+        gap before kind 5: 26=53
+        kind 5 ends behind the file: 28=2
+        5 at record 3 before 5 at kind 5: 50'+ 52'+
+        5 at kind 5 before 6: 41=0 52'+
+        12 before 13 by kind 5: 47'0 49'0 52'1
+        ",
+    );
+}
+
+// The lamp, or the one with a kind 5, with bytes changed, a row to a line: its name, a colon, then the changes as `changes` reads them.
+fn lamps(ruled: bool, rows: &[u8]) {
     let mut at: usize = 0;
     while at < rows.len() {
         let stop = at + before(&rows[at..rows.len()], b'\n');
-        row(&rows[at..stop]);
+        row(ruled, &rows[at..stop]);
         at = stop + 1;
     }
 }
 
 // A line with no colon is no row.
-fn row(line: &[u8]) {
+fn row(ruled: bool, line: &[u8]) {
     let colon = before(line, b':');
     if colon < line.len() {
         let start = blanks(&line[0..colon]);
-        lamp(&line[start..colon], &line[colon..line.len()]);
+        lamp(&line[start..colon], ruled, &line[colon..line.len()]);
     }
 }
 
-fn lamp(what: &[u8], changes: &[u8]) {
-    lamp_into(what, changes, 5, 3);
+fn lamp(what: &[u8], ruled: bool, changes: &[u8]) {
+    if ruled {
+        let mut file = ruled_lamp();
+        lamp_into(what, &mut file, changes, 5, 3);
+        return;
+    }
+    let mut file = lamp_file();
+    lamp_into(what, &mut file, changes, 5, 3);
 }
 
 // Into so many bytes for the table, at most 5, and so many words, at most 3.
-fn lamp_into(what: &[u8], changes: &[u8], bytes: usize, count: usize) {
-    let mut file = lamp_file();
-    change(&mut file, changes);
+fn lamp_into(what: &[u8], file: &mut [u8], changes: &[u8], bytes: usize, count: usize) {
+    change(file, changes);
     let mut table = [7u8; 5];
     let mut words = [7u16; 3];
     if table.len() < bytes {
@@ -185,13 +223,19 @@ fn lamp_into(what: &[u8], changes: &[u8], bytes: usize, count: usize) {
     if words.len() < count {
         return;
     }
-    lent(what, &file, &mut table[0..bytes], &mut words[0..count]);
+    lent(what, file, &mut table[0..bytes], &mut words[0..count]);
 }
 
 pub(crate) fn lamp_file() -> [u8; LAMP]
     ensures { λ r. ⌜ 47 ≡ length r ⌝ }
 {
     *b"SEQ1\x04\x01\x19\x00\x04\x00\x02\x1d\x00\x06\x00\x03\x23\x00\x06\x00\x04\x29\x00\x06\x00\x01\x01\x02\x00\x00\x00\x02\x01\x00\x01\x00\x01\x01\x01\x00\x02!aaa!a"
+}
+
+pub(crate) fn ruled_lamp() -> [u8; RULED]
+    ensures { λ r. ⌜ 53 ≡ length r ⌝ }
+{
+    *b"SEQ1\x05\x01\x1e\x00\x04\x00\x02\x22\x00\x06\x00\x03\x28\x00\x06\x00\x04\x2e\x00\x06\x00\x05\x34\x00\x01\x00\x01\x01\x02\x00\x00\x00\x02\x01\x00\x01\x00\x01\x01\x01\x00\x02!aaa!aa"
 }
 
 fn lent(what: &[u8], file: &[u8], table: &mut [u8], words: &mut [u16]) {

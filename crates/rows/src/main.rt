@@ -6,6 +6,7 @@ mod lamps;
 mod limits;
 mod lines;
 mod log;
+mod never;
 mod plans;
 mod ranks;
 mod records;
@@ -18,6 +19,8 @@ fn main() {
     plans::gate_runs();
     plans::expected_readings();
     plans::wrong_changes();
+    never::lamp();
+    never::gate();
 }
 
 // Conditions and reading a file.

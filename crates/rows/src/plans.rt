@@ -18,9 +18,14 @@ pub(crate) fn lamp_plan() {
 }
 
 fn plan_of_lamp(what: &[u8], room: &mut [u8]) {
+    planned(what, lamp_frame(0), room);
+}
+
+// The plan of the lamp's table with a frame.
+pub(crate) fn planned(what: &[u8], frame: Frame, room: &mut [u8]) {
     let mut ranks = [7u16; 5];
-    let planned = plan::plan(lamp_frame(0), b"\x00\x01\x00\x01", &mut ranks, room);
-    answer(what, planned);
+    let told = plan::plan(frame, b"\x00\x01\x00\x01", &mut ranks, room);
+    answer(what, told);
     values(&ranks);
     bytes(room);
     end();
@@ -72,7 +77,7 @@ fn of_gate(what: &[u8], run: &[u8]) {
     readings_of(what, gate_frame(), &table, &words, run);
 }
 
-fn readings_of(what: &[u8], frame: Frame, table: &[u8], words: &[u16], run: &[u8]) {
+pub(crate) fn readings_of(what: &[u8], frame: Frame, table: &[u8], words: &[u16], run: &[u8]) {
     let mut readings = [7u16; 6];
     let told = readings::expected(frame, table, words, run, &mut readings);
     answered(what, told, &readings);

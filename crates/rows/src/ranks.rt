@@ -13,6 +13,7 @@ use crate::lines::places;
 use crate::lines::word;
 use machine::Frame;
 use machine::UNMARKED;
+use sets::WORDS;
 
 // The lamp's sizes with an initial state, and the gate's.
 pub(crate) fn lamp_frame(initial: usize) -> Frame {
@@ -20,6 +21,7 @@ pub(crate) fn lamp_frame(initial: usize) -> Frame {
         inputs: 1,
         states: 2,
         initial: initial,
+        never: [0; WORDS],
     }
 }
 
@@ -28,6 +30,7 @@ pub(crate) fn gate_frame() -> Frame {
         inputs: 4,
         states: 3,
         initial: 0,
+        never: [0; WORDS],
     }
 }
 
@@ -60,12 +63,13 @@ pub(crate) fn table_iv() {
         inputs: 3,
         states: 5,
         initial: 0,
+        never: [0; WORDS],
     };
     published(b"table IV", frame, &table, &mut ranks, 5);
 }
 
 // The answer, the ranks of each state, how often each rank occurs up to the highest, and the couples without one.
-fn published(what: &[u8], frame: Frame, table: &[u8], ranks: &mut [u16], highest: u16) {
+pub(crate) fn published(what: &[u8], frame: Frame, table: &[u8], ranks: &mut [u16], highest: u16) {
     let told = marking::mark(frame, table, ranks);
     answer(what, told);
     end();

@@ -3,17 +3,15 @@
 use mathlib.Core.Path.{_≡_}
 use mathlib.Core.Bool.{Bool, not}
 use mathlib.Core.List.{List, [], _∷_}
-use Prim.Native.Nat.{ℕ, zero, suc, _+_, _*_, _-_, _%_, _^_, _≤_, _<_}
+use Prim.Native.Nat.{ℕ, zero, suc, _-_, _≤_, _<_}
 use native.Mathlib.Omega.{arith}
 use lib.ListN.{length, getD}
-use lib.Arith.{digits-lt}
 use Rattle.verdict.specs.Checks.{Decides, check, refused, next, Verdict, Passed, Judged}
 use Rattle.verdict.specs.declared.Answer.{Answer}
 use Rattle.verdict.proofs.Tests.{decides-map, decides-not}
-use Rattle.machine.specs.Runs.{Machine, size, move, Starts, Changes, Fault}
+use Rattle.machine.specs.Runs.{Machine, Starts, Changes, Fault}
 use Rattle.machine.specs.Runs.Fault.{empty, no-start, no-change}
 use Rattle.tables.specs.Tables.{Tabled}
-use Rattle.machine.proofs.Sizes.{couples-few}
 use Rattle.runs.specs.Faults.{faultChecks}
 
 suc-pred : (i : ℕ) → suc i - 1 ≡ i
@@ -38,17 +36,6 @@ module _ {m : Machine} {run : List ℕ} {b : Bool} where
 pub fault-inside : {m : Machine} {run : List ℕ} → 0 < length run → (i : ℕ) → Fault m run i → i < length run
 fault-inside h zero f = h
 fault-inside h (suc i) (no-change l n) = l
-
--- a couple's number by a shift: it stands in the table, and the element there is its move
-module _ {m : Machine} (t : Tabled m) {s v : ℕ} (h : s < m .states) (k : v < size m) where
-  shifted : s * size m % 2 ^ 64 ≡ s * size m
-  shifted = omega (arith, digits-lt h k, couples-few (t .sized))
-
-  pub couple-inside : s * size m % 2 ^ 64 + v < length (m .table)
-  couple-inside = omega (arith, shifted, digits-lt h k, t .long)
-
-  pub couple-move : getD (m .table) (s * size m % 2 ^ 64 + v) 0 ≡ move m s v
-  couple-move = rw shifted
 
 -- refusal 17 where 2 and 3 do not apply to the table
 pub run-judged : {m : Machine} {run : List ℕ} {a : Answer} → Tabled m → Judged (faultChecks m run) Passed a → Judged (check 17 (Fault m run) ∷ []) Passed a

@@ -5,13 +5,14 @@ ghost use Prim.Native.Nat.{ℕ, _≤_, _^_};
 ghost use Rattle.verdict.specs.Checks.{Decides, Finds, Passed, Judged};
 ghost use Rattle.machine.specs.Limits.{mostInputs};
 ghost use Rattle.machine.specs.Couples.{differing};
-ghost use Rattle.machine.specs.Runs.{machineOf, Starts, Changes, Fault};
+ghost use Rattle.machine.specs.Runs.{machineOf, Changes, Fault};
 ghost use Rattle.tables.specs.Tables.{Tabled};
 ghost use Rattle.runs.specs.Faults.{faultChecks};
 use crate::stored::setting;
-use basics::wide;
 use machine::Frame;
 use machine::settings;
+use machine::usable;
+use tables::is_start;
 use tables::tabled;
 use verdict::Answer;
 use verdict::Found;
@@ -46,10 +47,10 @@ fn first_fault(frame: Frame, table: &[u8], run: &[u8]) -> Found
     if run.len() == 0 {
         return Found::At(0);
     }
-    let m = settings(frame.inputs);
-    if !is_start(frame, table, m, setting(run, 0)) {
+    if !is_start(frame, table, setting(run, 0)) {
         return Found::At(0);
     }
+    let m = settings(frame.inputs);
     for i in 1..run.len() {
         if !may_change(frame, m, setting(run, i - 1), setting(run, i)) {
             return Found::At(i);
@@ -58,24 +59,15 @@ fn first_fault(frame: Frame, table: &[u8], run: &[u8]) -> Found
     Found::Nothing
 }
 
-// Whether a run may start at v: it is one of the m settings, and the initial state rests there.
-fn is_start(frame: Frame, table: &[u8], m: usize, v: usize) -> bool
-    requires { ⌜ Tabled (machineOf frame (now table)) × (m ≡ 2 ^ frame .inputs) ⌝ }
-    ensures { λ r. ⌜ Decides (Starts (machineOf frame (now (table .entry))) v) r ⌝ }
-{
-    if m <= v {
-        return false;
-    }
-    let initial = frame.initial;
-    wide(table[(initial << frame.inputs) + v]) == initial
-}
-
-// Whether a run may change from v to w: it is one of the m settings, and exactly one input differs.
+// Whether a run may change from v to w: w is one of the m settings and not ruled out, and exactly one input differs.
 fn may_change(frame: Frame, m: usize, v: usize, w: usize) -> bool
     requires { ⌜ (frame .inputs ≤ mostInputs) × (m ≡ 2 ^ frame .inputs) ⌝ }
     ensures { λ r. ⌜ ((table : List ℕ) → Decides (Changes (machineOf frame table) v w) r) ⌝ }
 {
     if m <= w {
+        return false;
+    }
+    if !usable(frame, w) {
         return false;
     }
     one_input(frame.inputs, v, w)

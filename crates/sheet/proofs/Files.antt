@@ -1,5 +1,5 @@
 -- A file that reads makes a machine that no table job refuses: the front of the table that reading left is the table of the file.
-use mathlib.Core.Path.{_≡_, refl, sym, ap, subst, subst₂, _∙_}
+use mathlib.Core.Path.{_≡_, refl, sym, ap, ap₂, subst, subst₂, _∙_}
 use mathlib.Core.List.{List}
 use mathlib.Core.Logic.{inl}
 use Prim.Native.Nat.{ℕ, _*_, _-_, _^_, _≤_}
@@ -13,8 +13,8 @@ use Rattle.machine.specs.Runs.{machineOf}
 use Rattle.machine.specs.declared.Frame.{Frame}
 use Rattle.machine.proofs.Sizes.{couples-few}
 use Rattle.specification.specs.Limits.{mostEvolutions}
-use Rattle.specification.specs.Records.{sizesOf, frameOf, settings, couples}
-use Rattle.specification.specs.Rules.{MoveAt, TableOf}
+use Rattle.specification.specs.Records.{sizesOf, settings, couples}
+use Rattle.specification.specs.Rules.{MoveAt, TableOf, FrameOf}
 use Rattle.specification.specs.Reading.{fileChecks, ReadHere}
 use Rattle.specification.specs.declared.Contents.{Contents}
 use Rattle.specification.proofs.Accepted.{sized, accepted}
@@ -22,10 +22,10 @@ use Rattle.sheet.specs.Printed.{Answers, accepted as success, textRoom, 
 use Rattle.sheet.specs.inner.Steps.{Ready}
 
 -- a table of the file makes a machine that can be planned
-pub planned : {file table : List ℕ} {room : ℕ} → Answers file success → TableOf file table → textRoom ≤ room → Ready (machineOf (frameOf (sizesOf file)) table) room
-planned {table = T} v t h =
-    let (c, s) = accepted v refl T (omega (arith, t .whole)) (t .each) in
-    record { checked = c; started = λ n. s .0 .nowhere 0 (refl, n); exact = t .whole; roomy = h }
+pub planned : {f : Frame} {file table : List ℕ} {room : ℕ} → Answers file success → FrameOf file (sizesOf file) f → TableOf file table → textRoom ≤ room → Ready (machineOf f table) room
+planned {table = T} v x t h =
+    let (c, s) = accepted v refl x T (omega (arith, t .whole)) (t .each) in
+    record { checked = c; started = λ n. s .0 .nowhere 0 (refl, n); exact = t .whole ∙ sym (ap₂ (λ (s n : ℕ). s * 2 ^ n) (x .states) (x .inputs)); roomy = h }
 
 -- what reading left, with room for every table and all words
 module _ {file table₀ words₀ table₁ words₁ : List ℕ} {r : Contents} (u : ReadHere file table₀ words₀ mostEvolutions r table₁ words₁)
@@ -38,13 +38,10 @@ module _ {file table₀ words₀ table₁ words₁ : List ℕ} {r : Contents} (u
     succeeds : Answers file success
     succeeds = subst (Answers file) (same-answer (r .answer) success e (judged-done 13 answers refl e .place)) answers
 
-    frame-is : r .frame ≡ frameOf (sizesOf file)
-    frame-is = ap (λ (c : Contents). c .frame) (u .done e)
-
     are : r .frame .states * z ≡ couples (sizesOf file)
     are =
-        let k : r .frame .inputs ≤ mostInputs = subst (λ (f : Frame). f .inputs ≤ mostInputs) (sym frame-is) (sized answers e .few-inputs) in
-        ap (λ (y : ℕ). r .frame .states * y) (few k) ∙ ap (λ (f : Frame). f .states * 2 ^ f .inputs) frame-is
+        let x = u .done e .frame in
+        ap₂ _*_ (x .states) (few (rw (x .inputs) (sized answers e .few-inputs)) ∙ ap (λ (n : ℕ). 2 ^ n) (x .inputs))
 
     pub table-few : r .frame .states * z ≤ mostCouples
     table-few = omega (arith, are, couples-few (sized answers e))
@@ -61,7 +58,7 @@ module _ {file table₀ words₀ table₁ words₁ : List ℕ} {r : Contents} (u
     }
 
     pub ready : {room : ℕ} → textRoom ≤ room → Ready (machineOf (r .frame) (take (r .frame .states * z - 0) table₁)) room
-    ready {room} h = subst (λ (f : Frame). Ready (machineOf f (take (r .frame .states * z - 0) table₁)) room) (sym frame-is) (planned succeeds front h)
+    ready h = planned succeeds (u .done e .frame) front h
 
     pub read-printed : {text : List ℕ} → PlanText (machineOf (r .frame) (take (r .frame .states * z - 0) table₁)) text → SheetOf file text
-    read-printed {text} x = read succeeds front (subst (λ (f : Frame). PlanText (machineOf f (take (r .frame .states * z - 0) table₁)) text) frame-is x)
+    read-printed x = read succeeds (u .done e .frame) front x

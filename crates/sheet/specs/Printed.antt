@@ -7,9 +7,10 @@ use Rattle.verdict.specs.Checks.{Passed, Judged}
 use Rattle.verdict.specs.declared.Answer.{Answer}
 use Rattle.machine.specs.Limits.{mostStates, mostCouples}
 use Rattle.machine.specs.Runs.{Machine, machineOf, RanksOf}
+use Rattle.machine.specs.declared.Frame.{Frame}
 use Rattle.specification.specs.Limits.{mostEvolutions}
-use Rattle.specification.specs.Records.{sizesOf, frameOf}
-use Rattle.specification.specs.Rules.{TableOf}
+use Rattle.specification.specs.Records.{sizesOf}
+use Rattle.specification.specs.Rules.{TableOf, FrameOf}
 use Rattle.specification.specs.Reading.{fileChecks}
 use Rattle.plan.specs.Planning.{PlanBytes, ShortPlan}
 use Rattle.show.specs.Sheet.{sheetText, refusalText}
@@ -36,7 +37,7 @@ pub data PlanText (m : Machine) : List ℕ → Type 0 where
 -- what is printed for a file: the line of its refusal; where it reads, the text of its machine
 pub data SheetOf (file : List ℕ) : List ℕ → Type 0 where
   refused : {a : Answer} → Answers file a → (a .number ≡ 0 → ⊥) → SheetOf file (refusalText (a .number) (a .place))
-  read : {table text : List ℕ} → Answers file accepted → TableOf file table → PlanText (machineOf (frameOf (sizesOf file)) table) text → SheetOf file text
+  read : {f : Frame} {table text : List ℕ} → Answers file accepted → FrameOf file (sizesOf file) f → TableOf file table → PlanText (machineOf f table) text → SheetOf file text
 
 -- room for every text: the first line, a line for each rank, and at most 5 letters for each byte of the plan
 abbrev pub textRoom : ℕ

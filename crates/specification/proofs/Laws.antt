@@ -1,5 +1,5 @@
 -- Facts on prefixes, sums and the layout of a file that several proofs cite: each by the law of one more step, and by arithmetic.
-use mathlib.Core.Path.{_≡_, refl, sym, ap, _∙_}
+use mathlib.Core.Path.{_≡_, refl, sym, ap, subst, _∙_}
 use mathlib.Core.List.{List}
 use mathlib.Core.Logic.{_⊎_, inl, inr, ⊎-elim}
 use Prim.Native.Nat.{ℕ, zero, suc, _+_, _*_, _/_, _^_, _≤_, _<_}
@@ -8,7 +8,7 @@ use native.Mathlib.Numerals.{add-one}
 use native.Mathlib.Nat.{not-suc-le-zero, le-of-suc-le-suc, eq-or-lt-of-le}
 use lib.ListN.{length, getD, take, length-take}
 use lib.Seq.{getD-take, ext-getD, length-take-le}
-use Rattle.specification.specs.File.{countOf, entryAt, startOf, lengthOf, WellFormed}
+use Rattle.specification.specs.File.{countOf, entryAt, startOf, lengthOf, kinds, WellFormed}
 use Rattle.specification.specs.Records.{sumTo, sizesOf, Sized, records, word, source, target, Beyond, output-beyond, source-beyond, target-beyond}
 use Rattle.specification.specs.inner.Private.{Laid, Wrong}
 use Rattle.specification.specs.declared.records.Sizes.{Sizes}
@@ -37,10 +37,6 @@ pub start-more : (file : List ℕ) (k : ℕ) → startOf file (k + 1) ≡ startO
 unfolding startOf
 start-more file k = rw add-one
 
-pub start-second : (file : List ℕ) → startOf file 1 ≡ startOf file 0 + lengthOf file 0
-unfolding startOf
-start-second file = refl
-
 -- sums
 pub sum-more : (f : ℕ → ℕ) (k : ℕ) → sumTo f (k + 1) ≡ sumTo f k + f k
 unfolding sumTo
@@ -54,13 +50,35 @@ sum-below f k (suc n) h = ⊎-elim (λ e. omega (arith, ap (sumTo f) e, ap f e))
 pub sum-le : (f : ℕ → ℕ) (k n : ℕ) → k ≤ n → sumTo f k ≤ sumTo f n
 sum-le f k n h = ⊎-elim (λ e. omega (arith, ap (sumTo f) e)) (λ l. omega (arith, sum-below f k n l)) (eq-or-lt-of-le h)
 
+-- bodies by their lengths, summed
+start-sum : (file : List ℕ) (k : ℕ) → startOf file k ≡ entryAt (countOf file) + sumTo (lengthOf file) k
+unfolding startOf sumTo
+start-sum file zero = omega arith
+start-sum file (suc k) = omega (arith, start-sum file k)
+
+pub start-le : (file : List ℕ) (k n : ℕ) → k ≤ n → startOf file k ≤ startOf file n
+start-le file k n h = omega (arith, start-sum file k, start-sum file n, sum-le (lengthOf file) k n h)
+
 -- the records and the texts lie in the file
-pub laid-out : (file : List ℕ) → WellFormed file → (startOf file 1 ≡ startOf file 0 + 4) × (startOf file 1 + lengthOf file 1 + 3 * (lengthOf file 2 / 3) + lengthOf file 3 ≡ length file)
+pub laid-out : (file : List ℕ) → WellFormed file → (startOf file 1 ≡ startOf file 0 + 4) × (startOf file 1 + lengthOf file 1 + 3 * (lengthOf file 2 / 3) + lengthOf file 3 ≡ startOf file kinds) × (startOf file kinds ≤ length file)
 unfolding startOf
-laid-out file w = (omega (arith, w .measured .sizes), omega (arith, w .entries .ends, w .measured .evolutions))
+laid-out file w = (omega (arith, w .measured .sizes), omega (arith, w .measured .evolutions), omega (arith, w .entries .ends, start-le file kinds (countOf file) (w .headed .count)))
 
 pub laid : (file : List ℕ) → WellFormed file → Sized file → Laid file (sizesOf file)
-laid file w s = record { ranges = s .ranges; texts = omega (arith, laid-out file w, s .states, s .texts); few = w .headed .few }
+laid file w s =
+    let e = laid-out file w in
+    record {
+      formed = w;
+      ranges = s .ranges;
+      counted = refl;
+      ends = omega (arith, e .1, s .states, s .texts);
+      texts = omega (arith, e .1, e .2, s .states, s .texts);
+      few = w .headed .few;
+    }
+
+-- by the sizes that are read
+pub laid-read : {file : List ℕ} {z : Sizes} → WellFormed file × Sized file × (z ≡ sizesOf file) → Laid file z
+laid-read {file} s = subst (Laid file) (sym (s .2)) (laid file (s .0) (s .1))
 
 -- refusal 4, of a state's record and of an evolution's
 module _ {file : List ℕ} {z : Sizes} {r : ℕ} where

@@ -1,4 +1,8 @@
 pub mod Laws
+pub mod Entries
+pub mod Never
+pub mod Conditions
+pub mod Framing
 pub mod Firing
 pub mod Scan
 pub mod Settling
@@ -9,3 +13,4 @@ pub mod Once
 pub mod Refusals
 pub mod Meanings
 pub mod Accepted
+pub mod Before

@@ -1,6 +1,6 @@
 -- Each promise of this crate leaves one outcome: the answer and every element of each lent buffer. The verdict of a list of checks is
--- one; the sizes follow from it; and where a file is read no two rules hold, so that each couple has one move.
-use mathlib.Core.Path.{_≡_, refl, sym, ap, _∙_}
+-- one; the sizes and the frame are the file's; and where a file is read no two rules hold, so that each couple has one move.
+use mathlib.Core.Path.{_≡_, refl, sym, ap, ap₂, _∙_}
 use mathlib.Core.List.{List}
 use mathlib.Core.Logic.{_⊎_, ⊎-elim}
 use Prim.Native.Nat.{ℕ, _≤_, _<_}
@@ -12,13 +12,15 @@ use Rattle.verdict.specs.declared.Answer.{Answer}
 use Rattle.verdict.proofs.Order.{judged-unique, judged-number, judged-passes}
 use Rattle.verdict.proofs.Fills.{left-unique}
 use Rattle.evolutions.specs.declared.Evolution.{Evolution}
+use Rattle.machine.specs.declared.Frame.{Frame}
 use Rattle.machine.proofs.Couples.{couple-of}
 use Rattle.specification.specs.Records.{sizesOf, settings, couples}
 use Rattle.specification.specs.Rules.{TwoRules, MoveAt}
 use Rattle.specification.specs.Evolutions.{Handed}
-use Rattle.specification.specs.Reading.{refusalOf, contentsOf, ReadHere, ReadAs}
+use Rattle.specification.specs.Reading.{refusalOf, ContentsOf, ReadHere, ReadAs}
 use Rattle.specification.specs.declared.Contents.{Contents}
 use Rattle.specification.specs.declared.records.Sizes.{Sizes}
+use Rattle.specification.proofs.Framing.{frame-only}
 use Rattle.specification.proofs.Settling.{same-move}
 
 module _ {file table words : List ℕ} {room : ℕ} {r : Contents} {t w : List ℕ} (u : ReadHere file table words room r t w) where
@@ -35,6 +37,12 @@ module _ {file table words : List ℕ} {room : ℕ} {r : Contents} {t w : List �
       let k = couple-of p (pow-pos (sizesOf file .inputs)) h in
       same-move file (sizesOf file) (no-two-rules (few e)) k (f .move _ _ k) (g .move _ _ k)
 
+-- what is answered on success is one
+contents-only : {file : List ℕ} {z : Sizes} (r q : Contents) → ContentsOf file z r → ContentsOf file z q → r .answer ≡ q .answer → r ≡ q
+contents-only r q x y e =
+    ap₂ (λ (a : Answer) (o : ℕ). record { answer = a; outputs = o; evolutions = r .evolutions; frame = r .frame }) e (x .outputs ∙ sym (y .outputs))
+    ∙ ap₂ (λ (n : ℕ) (f : Frame). record { answer = q .answer; outputs = q .outputs; evolutions = n; frame = f }) (x .evolutions ∙ sym (y .evolutions)) (frame-only (x .frame) (y .frame))
+
 -- the promise of `read_here`
 module _ {file table words : List ℕ} {room : ℕ} {r q : Contents} {t t′ w w′ : List ℕ} (u : ReadHere file table words room r t w) (v : ReadHere file table words room q t′ w′) where
   same-answer : r .answer ≡ q .answer
@@ -44,7 +52,7 @@ module _ {file table words : List ℕ} {room : ℕ} {r q : Contents} {t t′ w w
   same-number = ap (λ (a : Answer). a .number) same-answer
 
   same-contents : Dec (r .answer .number ≡ 0) → r ≡ q
-  same-contents (yes e) = u .done e ∙ ap (λ (a : Answer). contentsOf a (sizesOf file)) same-answer ∙ sym (v .done (sym same-number ∙ e))
+  same-contents (yes e) = contents-only r q (u .done e) (v .done (sym same-number ∙ e)) same-answer
   same-contents (no n) = u .refused n ∙ ap refusalOf same-answer ∙ sym (v .refused (λ e. n (same-number ∙ e)))
 
   pub only-here : (r ≡ q) × (t ≡ t′) × (w ≡ w′)

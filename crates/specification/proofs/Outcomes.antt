@@ -10,12 +10,14 @@ use Rattle.verdict.specs.Checks.{Passed, Judged}
 use Rattle.verdict.specs.declared.Answer.{Answer}
 use Rattle.verdict.proofs.Order.{judged-on, judged-stop, judged-number, judged-passes, roomy}
 use Rattle.verdict.proofs.Fills.{left-same}
-use Rattle.specification.specs.Records.{sizesOf}
+use Rattle.specification.specs.File.{WellFormed}
+use Rattle.specification.specs.Records.{sizesOf, Sized}
 use Rattle.specification.specs.Reading.{shapeChecks, refusalOf}
 use Rattle.specification.specs.inner.Private.{Laid, soundChecks, SoundAs, OutcomeAs, CoreAs}
 use Rattle.specification.specs.declared.Contents.{Contents}
 use Rattle.specification.specs.declared.records.Sizes.{Sizes}
 use Rattle.specification.specs.declared.reading.Core.{Core}
+use Rattle.specification.proofs.Laws.{laid}
 
 module _ (file table words : List ℕ) (room : ℕ) {s : Answer} (v : Judged (shapeChecks file (length table) (length words) room) Passed s) where
   -- refused by 1, 2 or 3
@@ -60,6 +62,6 @@ module _ (file table words : List ℕ) (room : ℕ) {s : Answer} (v : Judged (sh
           };
         }
 
-    pub late : {z : Sizes} {a : Answer} → z ≡ sizesOf file → Laid file z → SoundAs file z table words a t w → OutcomeAs file z a r → CoreAs file table words room r t w
-    late is l u o =
-        late-at (subst (Laid file) is l) (subst₂ (λ z a. SoundAs file z table words a t w) is (sym (o .answer)) u) (subst₂ (λ z a. OutcomeAs file z a r) is (sym (o .answer)) o)
+    pub late : {z : Sizes} {a : Answer} → WellFormed file × Sized file × (z ≡ sizesOf file) → SoundAs file z table words a t w → OutcomeAs file z a r → CoreAs file table words room r t w
+    late s u o =
+        late-at (laid file (s .0) (s .1)) (subst₂ (λ z a. SoundAs file z table words a t w) (s .2) (sym (o .answer)) u) (subst₂ (λ z a. OutcomeAs file z a r) (s .2) (sym (o .answer)) o)

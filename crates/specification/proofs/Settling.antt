@@ -5,7 +5,7 @@ use mathlib.Core.List.{List}
 use mathlib.Core.Logic.{_⊎_, inl, inr, ⊎-elim}
 use Prim.Native.Nat.{ℕ, _+_, _*_, _≤_, _<_}
 use native.Mathlib.Omega.{arith}
-use lib.ListN.{getD}
+use lib.ListN.{length, getD}
 use lib.Arith.{digits-lt}
 use lib.Pow.{pow-pos}
 use Rattle.verdict.specs.Checks.{None, Finds, Judged, Passed}
@@ -14,19 +14,22 @@ use Rattle.verdict.specs.declared.Answer.{Answer}
 use Rattle.verdict.specs.declared.Found.{Found}
 use Rattle.verdict.specs.declared.Found.the-variants.{Nothing}
 use Rattle.verdict.proofs.Order.{judged-passes, judged-row}
-use Rattle.verdict.proofs.Tests.{found-none}
+use Rattle.verdict.proofs.Tests.{decides-is, decides-not, found-none}
 use Rattle.machine.specs.Couples.{Couple}
 use Rattle.machine.specs.Moves.{tableMoves, Stateless, SameWord, Start}
 use Rattle.machine.specs.Runs.{machineOf, Starts}
+use Rattle.machine.specs.declared.Frame.{Frame}
 use Rattle.machine.proofs.Order.{below-or, equal-or}
 use Rattle.machine.proofs.Couples.{couple-of, couple-below}
 use Rattle.machine.proofs.Same.{Into, transient-into, unreached-into, start-into}
+use Rattle.tables.specs.Tables.{Tabled}
 use Rattle.specification.specs.Limits.{blankMove}
-use Rattle.specification.specs.Records.{frameOf, settings, couples, records, word, Beyond, target-beyond}
-use Rattle.specification.specs.Rules.{leadsTo, Fires, TwoRules, NoRule, Moves, MoveAt, MayStart}
+use Rattle.specification.specs.Records.{settings, couples, records, word, Beyond, target-beyond}
+use Rattle.specification.specs.Rules.{leadsTo, Fires, TwoRules, NoRule, Moves, MoveAt, MayStart, FrameOf}
 use Rattle.specification.specs.Reading.{moveChecks}
 use Rattle.specification.specs.inner.Private.{Laid, Noted, filledChecks}
 use Rattle.specification.specs.declared.records.Sizes.{Sizes}
+use Rattle.specification.proofs.Framing.{framed, framed-is}
 use Rattle.specification.proofs.Firing.{leads-state, leads-evolution}
 
 module _ (file : List ℕ) (z : Sizes) where
@@ -80,13 +83,13 @@ module _ {file : List ℕ} {z : Sizes} {table : List ℕ} (t : Ruled file z tabl
   pub states-only : (p : ℕ) → p < couples z → getD table p 0 < z .states
   states-only p l = below (t .moves p l .move _ _ (couple-of p (pow-pos (z .inputs)) l))
 
-  -- and so are its starts
-  module _ (i : z .initial < z .states) where
-    pub start-there : (v : ℕ) × Start (Moves file z) (MayStart file z) (settings z) (z .initial) v → (v : ℕ) × Starts (machineOf (frameOf z) table) v
-    start-there s = (s .0, start-into into-table (λ _. refl) i (s .1))
+  -- and so are its starts, with the set of the settings that are never used
+  module _ {f : Frame} (x : FrameOf file z f) (i : z .initial < z .states) where
+    pub start-there : (v : ℕ) × Start (Moves file z) (MayStart file z) (settings z) (z .initial) v → (v : ℕ) × Starts (machineOf (framed z (f .never)) table) v
+    start-there s = (s .0, start-into into-table (decides-is (decides-not (x .never .each (s .0) (s .1 .below)))) i (s .1))
 
-    start-back : (v : ℕ) × Starts (machineOf (frameOf z) table) v → (v : ℕ) × Start (Moves file z) (MayStart file z) (settings z) (z .initial) v
-    start-back s = (s .0, start-into table-into (λ _. tt) i (s .1))
+    start-back : (v : ℕ) × Starts (machineOf (framed z (f .never)) table) v → (v : ℕ) × Start (Moves file z) (MayStart file z) (settings z) (z .initial) v
+    start-back s = (s .0, start-into table-into (decides-not (x .never .each (s .0) (s .1 .below)) .holds) i (s .1))
 
 -- what the scan leaves where no two rules hold, and the words of the states
 pub record Settled (file : List ℕ) (z : Sizes) (table words : List ℕ) : Type 0 where
@@ -95,6 +98,13 @@ pub record Settled (file : List ℕ) (z : Sizes) (table words : List ℕ) : Type
   pub single : None (TwoRules file z (settings z))
   pub noted : (p : ℕ) → p < couples z → Noted file z (settings z) p (getD table p 0)
   pub named : (s : ℕ) → s < z .states → getD words s 0 ≡ word file z s
+
+-- its sizes and its length are fit for the checks of a table
+pub tabled : {file : List ℕ} {z : Sizes} {f : Frame} (table : List ℕ) → Laid file z → FrameOf file z f → couples z ≤ length table → Tabled (machineOf f table)
+tabled table l x h =
+    let g = l .ranges in
+    subst (λ (f : Frame). Tabled (machineOf f table)) (sym (framed-is x))
+    (record { sized = record { some-input = g .some-input; few-inputs = g .few-inputs; few-states = g .few-states; begins = g .begins }; long = h })
 
 -- the scan's settings are those of the file
 pub scanned : {file : List ℕ} {z : Sizes} {m : ℕ} {a b : List ℕ} {x : Found} → m ≡ settings z → Finds (TwoRules file z m) x × Filled (z .states * m) (λ p y. x ≡ Nothing → Noted file z m p y) a b
@@ -144,15 +154,16 @@ module _ {file : List ℕ} {z : Sizes} {table words : List ℕ} (t : Settled fil
       }
 
   -- so the checks of the table and the words are those of the file
-  pub carried : {a : Answer} → Judged (filledChecks (machineOf (frameOf z) table) words) Passed a → Judged (moveChecks file z) Passed a
-  carried =
+  pub carried : {a : Answer} {f : Frame} → FrameOf file z f → Judged (filledChecks (machineOf f table) words) Passed a → Judged (moveChecks file z) Passed a
+  carried {a} {f} x v =
       let i = t .laid .ranges .begins in
       judged-row stateless-to to-stateless (λ some.
       let r = ruled some in
       judged-row (transient-into (table-into r) (into-table r)) (transient-into (into-table r) (table-into r)) (λ _.
       judged-row (same-words (t .named)) (same-words (λ s h. sym (t .named s h))) (λ _.
       judged-row (unreached-into (into-table r) i) (unreached-into (table-into r) i) (λ _.
-      judged-row (λ p x. (x .0, λ s. x .1 (start-there r i s))) (λ p x. (x .0, λ s. x .1 (start-back r i s))) (λ _ v. v)))))
+      judged-row (λ p u. (u .0, λ s. u .1 (start-there r x i s))) (λ p u. (u .0, λ s. u .1 (start-back r x i s))) (λ _ v. v)))))
+      (subst (λ (f : Frame). Judged (filledChecks (machineOf f table) words) Passed a) (framed-is x) v)
 
   -- and where they pass, the buffer is filled with the moves
   pub moves-left : {a : List ℕ} {r : Answer} {P : ℕ → ℕ → Type 0} → Judged (moveChecks file z) Passed r → Filled (couples z) P a table

@@ -3,7 +3,7 @@ use mathlib.Core.Path.{_≡_}
 use mathlib.Core.List.{List, [], _∷_}
 use Prim.Native.Char.{code}
 use Prim.Native.Nat.{ℕ, zero, suc, _+_, _*_, _%_, _≤_, _<_}
-use lib.ListN.{length, getD, take}
+use lib.ListN.{length, getD, take, drop}
 use Rattle.specification.specs.Limits.{mostBytes}
 
 -- a number of two bytes, low byte first
@@ -31,30 +31,37 @@ offsetOf file k = twoAt file (entryAt k + 1)
 abbrev pub lengthOf : List ℕ → ℕ → ℕ
 lengthOf file k = twoAt file (entryAt k + 3)
 
--- the first body starts where the entries end (byte 25 for four of them), each next one where the last ended
+-- the first body starts where the entries end, at 5 + 5 × count, each next one where the last ended
 unfoldable pub startOf : List ℕ → ℕ → ℕ
 startOf file zero = entryAt (countOf file)
 startOf file (suc k) = startOf file k + lengthOf file k
 
--- kinds 1 to 4
+-- the body of entry k
+abbrev pub bodyOf : List ℕ → ℕ → List ℕ
+bodyOf file k = take (lengthOf file k) (drop (startOf file k) file)
+
+-- kinds 1 to 4 are always there
 abbrev pub kinds : ℕ
 kinds = 4
+
+-- kind 5, the settings that are never used, may be there, and no other
+abbrev pub neverKind : ℕ
+neverKind = 5
 
 -- neither too long nor too short; mark and count
 pub record Headed (file : List ℕ) : Type 0 where
   pub few : length file ≤ mostBytes
-  pub enough : entryAt kinds ≤ length file
   pub marked : take 4 file ≡ mark
-  pub count : countOf file ≡ kinds
+  pub count : kinds ≤ countOf file
+  pub enough : entryAt (countOf file) ≤ length file
 
--- kinds rising from 1, bodies end to end, the last ends with the file
-pub record Entry (file : List ℕ) (k : ℕ) : Type 0 where
-  pub kind : kindOf file k ≡ k + 1
-  pub offset : offsetOf file k ≡ startOf file k
-
+-- kinds rising, 1 to 4 among them, none beyond 5; bodies end to end, the last ends with the file
 pub record Entries (file : List ℕ) : Type 0 where
-  pub each : (k : ℕ) → k < kinds → Entry file k
-  pub ends : startOf file kinds ≡ length file
+  pub always : (k : ℕ) → k < kinds → kindOf file k ≡ k + 1
+  pub rising : (k : ℕ) → suc k < countOf file → kindOf file k < kindOf file (suc k)
+  pub known : (k : ℕ) → k < countOf file → kindOf file k ≤ neverKind
+  pub offset : (k : ℕ) → k < countOf file → offsetOf file k ≡ startOf file k
+  pub ends : startOf file (countOf file) ≡ length file
 
 -- kind 1 has 4 bytes, kinds 2 and 3 a multiple of 3
 pub record Measured (file : List ℕ) : Type 0 where

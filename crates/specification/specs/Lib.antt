@@ -4,4 +4,5 @@ pub mod Records
 pub mod Rules
 pub mod Evolutions
 pub mod Reading
+pub mod Before
 pub mod inner

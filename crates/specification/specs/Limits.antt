@@ -13,6 +13,10 @@ mostEvolutions = 992
 abbrev pub mostBytes : ℕ
 mostBytes = 65535
 
+-- conditions up to 255 bytes
+abbrev pub mostText : ℕ
+mostText = 255
+
 -- what a refusal by 4 to 13 leaves in the needed table bytes, and in the needed words
 abbrev pub blankMove : ℕ
 blankMove = 255

@@ -3,7 +3,8 @@
 use mathlib.Core.Path.{_≡_}
 use mathlib.Core.List.{List, [], _∷_, _++_}
 use Prim.Native.Nat.{ℕ}
-use lib.ListN.{length}
+use lib.ListN.{length, replicate}
+use Rattle.sets.specs.Sets.{words}
 use Rattle.verdict.specs.Checks.{Check, check, Unless, Short, Passed, Judged}
 use Rattle.verdict.specs.Buffers.{Left}
 use Rattle.verdict.specs.declared.Answer.{Answer}
@@ -11,8 +12,8 @@ use Rattle.evolutions.specs.declared.Evolution.{Evolution}
 use Rattle.machine.specs.Moves.{Transient, SameWord, Unreached, Start}
 use Rattle.specification.specs.Limits.{blankMove, blankWord}
 use Rattle.specification.specs.File.{WellFormed}
-use Rattle.specification.specs.Records.{sizesOf, frameOf, settings, couples, word, Sized, Beyond, Own, Twice}
-use Rattle.specification.specs.Rules.{Unreads, TwoRules, NoRule, Moves, MoveAt, MayStart}
+use Rattle.specification.specs.Records.{sizesOf, settings, couples, word, Sized, Beyond, Own, Twice}
+use Rattle.specification.specs.Rules.{Unreads, TwoRules, NoRule, Moves, MoveAt, MayStart, FrameOf}
 use Rattle.specification.specs.Evolutions.{Handed}
 use Rattle.specification.specs.declared.Contents.{Contents}
 use Rattle.specification.specs.declared.records.Sizes.{Sizes}
@@ -23,7 +24,8 @@ shapeChecks file tableRoom wordRoom recordRoom =
     let z = sizesOf file in
     -- file too long or too short, mark, count, kinds, offsets or end wrong; kind 1 not 4 bytes; kind 2 or 3 not a multiple of 3
     check 1 (Unless (WellFormed file))
-    -- a size outside its range; initial not below S; kind 2 not 3 × S bytes; over 992 evolutions; condition lengths not summing to kind 4
+    -- a size outside its range; initial not below S; kind 2 not 3 × S bytes; over 992 evolutions; condition lengths not summing to kind 4;
+    -- kind 5 over 255 bytes
     ∷ check 2 (Unless (Sized file))
     -- a table, word or record buffer too short, the first short one in that order
     ∷ check 3 (Short (couples z) tableRoom)
@@ -36,7 +38,7 @@ abbrev pub recordChecks : List ℕ → Sizes → List Check
 recordChecks file z =
     -- output bit beyond the outputs; state not below S in a record
     check 4 (Beyond file z)
-    -- condition does not read
+    -- condition does not read, that of kind 5 after those of the records
     ∷ check 5 (Unreads file z)
     -- evolution to its own source
     ∷ check 6 (Own file z)
@@ -71,19 +73,21 @@ fileChecks file tableRoom wordRoom recordRoom =
     let z = sizesOf file in
     shapeChecks file tableRoom wordRoom recordRoom ++ recordChecks file z ++ ruleChecks file z ++ moveChecks file z
 
--- a refusal: the sizes are all zero
+-- a refusal: the sizes are all zero, and no setting is ruled out
 abbrev pub refusalOf : Answer → Contents
-refusalOf a = record { answer = a; outputs = 0; evolutions = 0; frame = record { inputs = 0; states = 0; initial = 0 } }
+refusalOf a = record { answer = a; outputs = 0; evolutions = 0; frame = record { inputs = 0; states = 0; initial = 0; never = replicate words 0 } }
 
--- success: the sizes of the file
-abbrev pub contentsOf : Answer → Sizes → Contents
-contentsOf a z = record { answer = a; outputs = z .outputs; evolutions = z .evolutions; frame = frameOf z }
+-- success: the sizes of the file, and its frame
+pub record ContentsOf (file : List ℕ) (z : Sizes) (r : Contents) : Type 0 where
+  pub outputs : r .outputs ≡ z .outputs
+  pub evolutions : r .evolutions ≡ z .evolutions
+  pub frame : FrameOf file z (r .frame)
 
 -- Reading a file at room for so many records: the verdict, the sizes, the table and the words.
 pub record ReadHere (file table₀ words₀ : List ℕ) (room : ℕ) (r : Contents) (table₁ words₁ : List ℕ) : Type 0 where
   pub verdict : Judged (fileChecks file (length table₀) (length words₀) room) Passed (r .answer)
   pub refused : (r .answer .number ≡ 0 → ⊥) → r ≡ refusalOf (r .answer)
-  pub done : r .answer .number ≡ 0 → r ≡ contentsOf (r .answer) (sizesOf file)
+  pub done : r .answer .number ≡ 0 → ContentsOf file (sizesOf file) r
   pub table : Left (r .answer .number) (couples (sizesOf file)) blankMove (MoveAt file (sizesOf file) (settings (sizesOf file))) table₀ table₁
   pub words : Left (r .answer .number) (sizesOf file .states) blankWord (λ s w. w ≡ word file (sizesOf file) s) words₀ words₁
 

@@ -1,12 +1,11 @@
 -- Sizes and records (document 01, "Specification file"): refusals 2, 4, 6 and 7. Assumes nothing: these are definitions.
 use mathlib.Core.Path.{_≡_}
 use mathlib.Core.List.{List}
-use Prim.Native.Nat.{ℕ, zero, suc, _+_, _*_, _/_, _^_, _≤_, _<_}
+use Prim.Native.Nat.{ℕ, zero, suc, _+_, _*_, _-_, _/_, _^_, _≤_, _<_}
 use lib.ListN.{getD}
 use Rattle.machine.specs.Limits.{mostInputs, mostStates}
-use Rattle.machine.specs.declared.Frame.{Frame}
-use Rattle.specification.specs.Limits.{mostOutputs, mostEvolutions}
-use Rattle.specification.specs.File.{twoAt, lengthOf, startOf}
+use Rattle.specification.specs.Limits.{mostOutputs, mostEvolutions, mostText}
+use Rattle.specification.specs.File.{twoAt, countOf, lengthOf, startOf, kinds}
 use Rattle.specification.specs.declared.records.Sizes.{Sizes}
 
 -- f 0 + … + f (k - 1)
@@ -14,7 +13,7 @@ unfoldable pub sumTo : (ℕ → ℕ) → ℕ → ℕ
 sumTo f zero = 0
 sumTo f (suc k) = sumTo f k + f k
 
--- kind 1: inputs, outputs, states, initial state; kind 3: three bytes an evolution; the records begin with kind 2
+-- kind 1: inputs, outputs, states, initial state; kind 3: three bytes an evolution; the records begin with kind 2; bodies beyond kind 4
 abbrev pub sizesOf : List ℕ → Sizes
 sizesOf file =
     record {
@@ -24,11 +23,8 @@ sizesOf file =
       initial = getD file (startOf file 0 + 3) 0;
       evolutions = lengthOf file 2 / 3;
       first = startOf file 1;
+      more = countOf file - kinds;
     }
-
--- what the table jobs are told of them
-abbrev pub frameOf : Sizes → Frame
-frameOf z = record { inputs = z .inputs; states = z .states; initial = z .initial }
 
 -- settings, couples
 abbrev pub settings : Sizes → ℕ
@@ -72,11 +68,12 @@ pub record Ranges (z : Sizes) : Type 0 where
   pub begins : z .initial < z .states
   pub few-evolutions : z .evolutions ≤ mostEvolutions
 
--- refusal 2 does not apply: the sizes, kind 2 has 3 × S bytes, the condition lengths sum to kind 4
+-- refusal 2 does not apply: the sizes, kind 2 has 3 × S bytes, the condition lengths sum to kind 4, a body beyond has at most 255 bytes
 pub record Sized (file : List ℕ) : Type 0 where
   pub ranges : Ranges (sizesOf file)
   pub states : lengthOf file 1 ≡ 3 * sizesOf file .states
   pub texts : sumTo (textLength file (sizesOf file)) (records (sizesOf file)) ≡ lengthOf file 3
+  pub bodies : (k : ℕ) → kinds ≤ k → k < countOf file → lengthOf file k ≤ mostText
 
 -- record r is an evolution
 pub record Evolves (z : Sizes) (r : ℕ) : Type 0 where

@@ -1,12 +1,15 @@
--- Rules and moves (document 01, "Moves and soundness"): refusals 5, 8 and 9, and the table. Assumes nothing: these are definitions.
+-- Rules and moves (document 01, "Moves and soundness"): refusals 5, 8 and 9, the table, and the frame. Assumes nothing: these are definitions.
 use mathlib.Core.Path.{_≡_}
 use mathlib.Core.Bool.{cond}
 use mathlib.Core.List.{List}
-use Prim.Native.Nat.{ℕ, _+_, _<_}
+use Prim.Native.Nat.{ℕ, _+_, _-_, _<_}
 use lib.ListN.{length, getD, take, drop}
 use lib.Dec.{ltb}
 use Rattle.condition.specs.Condition.{Reads, Holds}
+use Rattle.sets.specs.Sets.{words, SetOf}
 use Rattle.machine.specs.Couples.{Couple}
+use Rattle.machine.specs.declared.Frame.{Frame}
+use Rattle.specification.specs.File.{countOf, kindOf, kinds, neverKind, bodyOf}
 use Rattle.specification.specs.Records.{sumTo, sizesOf, settings, couples, records, recordAt, source, target, textLength}
 use Rattle.specification.specs.declared.records.Sizes.{Sizes}
 
@@ -20,10 +23,17 @@ textAt file z r = textsAt z + sumTo (textLength file z) r
 abbrev pub textOf : List ℕ → Sizes → ℕ → List ℕ
 textOf file z r = take (textLength file z r) (drop (textAt file z r) file)
 
--- refusal 5: the condition of record r does not read
+-- the conditions of a file: those of the records, then each body beyond kind 4, numbered on
+abbrev pub conditions : Sizes → ℕ
+conditions z = records z + z .more
+
+unfoldable pub conditionOf : List ℕ → Sizes → ℕ → List ℕ
+conditionOf file z r = cond (ltb r (records z)) (textOf file z r) (bodyOf file (kinds + (r - records z)))
+
+-- refusal 5: condition r does not read
 pub record Unreads (file : List ℕ) (z : Sizes) (r : ℕ) : Type 0 where
-  pub below : r < records z
-  pub unread : Reads (z .inputs) (textOf file z r) → ⊥
+  pub below : r < conditions z
+  pub unread : Reads (z .inputs) (conditionOf file z r) → ⊥
 
 -- each record is a rule of one state and leads to one: a state's rest condition of itself to itself, an evolution of its source to its
 -- target
@@ -76,9 +86,23 @@ pub record TableOf (file table : List ℕ) : Type 0 where
   pub whole : length table ≡ couples (sizesOf file)
   pub each : (p : ℕ) → p < couples (sizesOf file) → MoveAt file (sizesOf file) (settings (sizesOf file)) p (getD table p 0)
 
--- a run may start at any setting
+-- the setting v is never used: there is a kind 5, and its condition holds at v
+pub record Never (file : List ℕ) (z : Sizes) (v : ℕ) : Type 0 where
+  pub entry : ℕ
+  pub there : entry < countOf file
+  pub kind : kindOf file entry ≡ neverKind
+  pub holds : Holds (z .inputs) v (bodyOf file entry)
+
+-- a run may start at any other
 abbrev pub MayStart : List ℕ → Sizes → ℕ → Type 0
-MayStart file z v = Unit {0}
+MayStart file z v = Never file z v → ⊥
+
+-- the frame of a file: its sizes, and the set of the settings that are never used
+pub record FrameOf (file : List ℕ) (z : Sizes) (f : Frame) : Type 0 where
+  pub inputs : f .inputs ≡ z .inputs
+  pub states : f .states ≡ z .states
+  pub initial : f .initial ≡ z .initial
+  pub never : SetOf words (settings z) (Never file z) (f .never)
 
 -- exactly one rule of s holds at v, and x is its target
 pub record OneRule (file : List ℕ) (z : Sizes) (s v x : ℕ) : Type 0 where

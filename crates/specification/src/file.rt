@@ -1,14 +1,26 @@
 // The contents of a file: refusal 1.
 ghost use mathlib.Core.Path.{_≡_};
-ghost use Prim.Native.Nat.{_+_, _*_, _<_, _≤_, _^_};
+ghost use mathlib.Core.List.{List};
+ghost use Prim.Native.Nat.{ℕ, _+_, _*_, _<_, _≤_, _^_};
 ghost use lib.ListN.{length, take};
 ghost use Rattle.verdict.specs.Checks.{Decides};
-ghost use Rattle.specification.specs.File.{twoAt, mark, kinds, entryAt, kindOf, offsetOf, lengthOf, startOf, Entries, Headed, Measured, WellFormed};
+ghost use Rattle.specification.specs.File.{twoAt, mark, countOf, entryAt, kindOf, offsetOf, lengthOf, Entries, Headed, Measured};
+ghost use Rattle.specification.specs.inner.Private.{Decoded};
 use crate::BYTES;
 use basics::wide;
 
-// The kinds of bodies, an entry each.
-const KINDS: usize = 4;
+// The kinds of bodies that are always there, an entry each.
+pub(crate) const KINDS: usize = 4;
+
+// The most kinds.
+pub(crate) const MOST_KINDS: usize = KINDS + 1;
+
+// The bodies of a file, an entry each: how many there are, where each begins, and how long it is.
+pub(crate) struct Bodies {
+    pub count: usize,
+    pub at: [usize; MOST_KINDS],
+    pub length: [usize; MOST_KINDS],
+}
 
 // A number of two bytes, low byte first.
 pub(crate) fn two_at(file: &[u8], at: usize) -> usize
@@ -28,7 +40,7 @@ fn entry_at(k: usize) -> usize
 
 // The kind of entry k.
 fn kind_of(file: &[u8], k: usize) -> usize
-    requires { ⌜ (k < kinds) × (entryAt kinds ≤ length (now file)) ⌝ }
+    requires { ⌜ (k < countOf (now file)) × (entryAt (countOf (now file)) ≤ length (now file)) ⌝ }
     ensures { λ r. ⌜ r ≡ kindOf (now (file .entry)) k ⌝ }
 {
     wide(file[entry_at(k)])
@@ -36,7 +48,7 @@ fn kind_of(file: &[u8], k: usize) -> usize
 
 // A number of two bytes, so many bytes into entry k.
 fn number_in(file: &[u8], k: usize, by: usize) -> usize
-    requires { ⌜ (k < kinds) × (by ≤ 3) × (entryAt kinds ≤ length (now file)) ⌝ }
+    requires { ⌜ (k < countOf (now file)) × (by ≤ 3) × (entryAt (countOf (now file)) ≤ length (now file)) ⌝ }
     ensures { λ r. ⌜ (r ≡ twoAt (now (file .entry)) (entryAt k + by)) × (r < 2 ^ 16) ⌝ }
 {
     two_at(file, entry_at(k) + by)
@@ -44,26 +56,26 @@ fn number_in(file: &[u8], k: usize, by: usize) -> usize
 
 // Where the body of entry k begins.
 fn offset_of(file: &[u8], k: usize) -> usize
-    requires { ⌜ (k < kinds) × (entryAt kinds ≤ length (now file)) ⌝ }
+    requires { ⌜ (k < countOf (now file)) × (entryAt (countOf (now file)) ≤ length (now file)) ⌝ }
     ensures { λ r. ⌜ r ≡ offsetOf (now (file .entry)) k ⌝ }
 {
     number_in(file, k, 1)
 }
 
 // The length of the body of entry k.
-pub(crate) fn length_of(file: &[u8], k: usize) -> usize
-    requires { ⌜ (k < kinds) × (entryAt kinds ≤ length (now file)) ⌝ }
+fn length_of(file: &[u8], k: usize) -> usize
+    requires { ⌜ (k < countOf (now file)) × (entryAt (countOf (now file)) ≤ length (now file)) ⌝ }
     ensures { λ r. ⌜ (r ≡ lengthOf (now (file .entry)) k) × (r < 2 ^ 16) ⌝ }
 {
     number_in(file, k, 3)
 }
 
-// Where the first body starts.
-pub(crate) fn first_body(file: &[u8]) -> usize
-    requires { ⌜ entryAt kinds ≤ length (now file) ⌝ }
-    ensures { λ r. ⌜ (r ≡ startOf (now (file .entry)) 0) × (r < 2 ^ 16) ⌝ }
+// How many entries there are.
+fn count_of(file: &[u8]) -> usize
+    requires { ⌜ entryAt 0 ≤ length (now file) ⌝ }
+    ensures { λ r. ⌜ (r ≡ countOf (now (file .entry))) × (r < 2 ^ 8) ⌝ }
 {
-    entry_at(wide(file[4]))
+    wide(file[4])
 }
 
 // Whether the file begins with these bytes.
@@ -100,16 +112,25 @@ fn headed(file: &[u8]) -> bool
     if !has_mark(file) {
         return false;
     }
-    wide(file[4]) == KINDS
+    let count = count_of(file);
+    if count < KINDS {
+        return false;
+    }
+    entry_at(count) <= file.len()
 }
 
-// Whether the entries have rising kinds and bodies end to end, to the end of the file.
+// Whether the entries have rising kinds and bodies end to end, to the end of the file: with no kind beyond the last, entry k has kind
+// k + 1.
 fn entries(file: &[u8]) -> bool
-    requires { ⌜ entryAt kinds ≤ length (now file) ⌝ }
+    requires { ⌜ Headed (now file) ⌝ }
     ensures { λ r. ⌜ Decides (Entries (now (file .entry))) r ⌝ }
 {
-    let mut start = first_body(file);
-    for k in 0..KINDS {
+    let count = count_of(file);
+    if MOST_KINDS < count {
+        return false;
+    }
+    let mut start = entry_at(count);
+    for k in 0..count {
         if kind_of(file, k) != k + 1 {
             return false;
         }
@@ -121,32 +142,47 @@ fn entries(file: &[u8]) -> bool
     start == file.len()
 }
 
-// Whether the bodies of kinds 1, 2 and 3 have lengths that fit what they hold.
-fn measured(file: &[u8]) -> bool
-    requires { ⌜ entryAt kinds ≤ length (now file) ⌝ }
-    ensures { λ r. ⌜ Decides (Measured (now (file .entry))) r ⌝ }
-{
-    if length_of(file, 0) != 4 {
-        return false;
-    }
-    if length_of(file, 1) % 3 != 0 {
-        return false;
-    }
-    length_of(file, 2) % 3 == 0
-}
-
-// Whether refusal 1 does not apply.
-pub(crate) fn well_formed(file: &[u8]) -> bool
-    ensures { λ r. ⌜ Decides (WellFormed (now (file .entry))) r ⌝ }
+// Whether the file has a head and entries as it should: otherwise refusal 1.
+pub(crate) fn formed(file: &[u8]) -> bool
+    ensures { λ r. ⌜ Decides (Headed (now (file .entry)) × Entries (now (file .entry))) r ⌝ }
 {
     if !headed(file) {
         return false;
     }
-    if !entries(file) {
+    entries(file)
+}
+
+// The bodies, by the entries.
+pub(crate) fn bodies_of(file: &[u8]) -> Bodies
+    requires { ⌜ Headed (now file) × Entries (now file) ⌝ }
+    ensures { λ r. ⌜ Decoded (now (file .entry)) r ⌝ }
+{
+    let count = count_of(file);
+    let mut at = [0usize; MOST_KINDS];
+    let mut length = [0usize; MOST_KINDS];
+    let mut start = entry_at(count);
+    for k in 0..count {
+        let long = length_of(file, k);
+        at[k] = start;
+        length[k] = long;
+        start = start + long;
+    }
+    Bodies {
+        count: count,
+        at: at,
+        length: length,
+    }
+}
+
+// Whether the bodies of kinds 1, 2 and 3 have lengths that fit what they hold: otherwise refusal 1.
+pub(crate) fn measured(b: Bodies) -> bool
+    ensures { λ r. ⌜ ((file : List ℕ) → Headed file → Decoded file b → Decides (Measured file) r) ⌝ }
+{
+    if b.length[0] != 4 {
         return false;
     }
-    if !measured(file) {
+    if b.length[1] % 3 != 0 {
         return false;
     }
-    true
+    b.length[2] % 3 == 0
 }

@@ -3,6 +3,7 @@ ghost use Rattle.specification.specs.Limits.{mostEvolutions};
 ghost use Rattle.specification.specs.Reading.{ReadHere, ReadAs};
 
 mod file;
+mod frames;
 mod handing;
 mod reading;
 mod records;
@@ -23,7 +24,10 @@ pub const EVOLUTIONS: usize = 992;
 // The most bytes of a file.
 pub const BYTES: usize = 65535;
 
-// The answer, and the sizes of the file, all zero on refusal; the frame goes to the table jobs as it is.
+// The most bytes of a condition.
+const TEXT: usize = 255;
+
+// The answer, and the sizes and frame of the file, all zero on refusal; the frame goes to the table jobs as it is.
 #[repr(C)]
 pub struct Contents {
     pub answer: Answer,

@@ -8,12 +8,15 @@ ghost use Rattle.machine.specs.Runs.{machineOf};
 ghost use Rattle.tables.specs.Tables.{Tabled};
 ghost use Rattle.specification.specs.Limits.{blankMove, blankWord};
 ghost use Rattle.specification.specs.File.{WellFormed};
-ghost use Rattle.specification.specs.Records.{frameOf, settings, couples as couplesOf, word as wordOf, Sized};
-ghost use Rattle.specification.specs.Rules.{MoveAt};
+ghost use Rattle.specification.specs.Records.{sizesOf, settings, couples as couplesOf, word as wordOf, Sized};
+ghost use Rattle.specification.specs.Rules.{MoveAt, FrameOf};
 ghost use Rattle.specification.specs.Reading.{shapeChecks, recordChecks, refusalOf};
 ghost use Rattle.specification.specs.inner.Private.{Laid, Placed, filledChecks, soundChecks, SoundAs, OutcomeAs, CoreAs};
 use crate::Contents;
-use crate::file::well_formed;
+use crate::file::bodies_of;
+use crate::file::formed;
+use crate::file::measured;
+use crate::frames::frame_of;
 use crate::records::RecordCheck;
 use crate::records::Sizes;
 use crate::records::couples;
@@ -31,6 +34,7 @@ use crate::rules::next_rules;
 use crate::rules::starts_of;
 use basics::narrow;
 use machine::Frame;
+use sets::WORDS;
 use tables::check_sound;
 use verdict::Answer;
 use verdict::Found;
@@ -50,25 +54,46 @@ pub(crate) struct Core {
     pub good: bool,
 }
 
-// Refusals 1, 2 and 3.
-fn check_shape(file: &[u8], table: usize, words: usize, records: usize) -> Answer
-    ensures judged { λ r. ⌜ Judged (shapeChecks (now (file .entry)) table words records) Passed r ⌝ }
-    ensures shaped { λ r. ⌜ (r .number ≡ 0 → WellFormed (now (file .entry)) × Sized (now (file .entry))) ⌝ }
+// The answer of refusals 1, 2 and 3, and the sizes of a file that passes 1 and 2.
+struct Shape {
+    answer: Answer,
+    z: Sizes,
+}
+
+fn misshapen(number: usize) -> Shape
+    ensures { λ r. ⌜ r .answer ≡ record { number = number; place = 0 } ⌝ }
 {
-    if !well_formed(file) {
-        return Answer {
-            number: 1,
-            place: 0,
-        };
+    Shape {
+        answer: Answer { number, place: 0 },
+        z: Sizes {
+            inputs: 0,
+            outputs: 0,
+            states: 0,
+            initial: 0,
+            evolutions: 0,
+            first: 0,
+            more: 0,
+        },
     }
-    if !sized(file) {
-        return Answer {
-            number: 2,
-            place: 0,
-        };
+}
+
+// Refusals 1, 2 and 3.
+fn check_shape(file: &[u8], table: usize, words: usize, records: usize) -> Shape
+    ensures judged { λ r. ⌜ Judged (shapeChecks (now (file .entry)) table words records) Passed (r .answer) ⌝ }
+    ensures shaped { λ r. ⌜ (r .answer .number ≡ 0 → WellFormed (now (file .entry)) × Sized (now (file .entry)) × (r .z ≡ sizesOf (now (file .entry)))) ⌝ }
+{
+    if !formed(file) {
+        return misshapen(1);
     }
-    let z = sizes_of(file);
-    check_rooms(
+    let b = bodies_of(file);
+    if !measured(b) {
+        return misshapen(1);
+    }
+    let z = sizes_of(file, b);
+    if !sized(file, b, z) {
+        return misshapen(2);
+    }
+    let answer = check_rooms(
         Room {
             needed: couples(z),
             has: table,
@@ -81,7 +106,8 @@ fn check_shape(file: &[u8], table: usize, words: usize, records: usize) -> Answe
             needed: z.evolutions,
             has: records,
         },
-    )
+    );
+    Shape { answer, z }
 }
 
 // Refusals 4 to 7.
@@ -128,15 +154,10 @@ fn fill_words(file: &[u8], z: Sizes, words: &mut [u16])
 }
 
 // Refusals 9 to 13: those of the filled table and words, a blank being no state.
-fn check_moves(z: Sizes, table: &[u8], words: &[u16]) -> Answer
-    requires { ⌜ Tabled (machineOf (frameOf z) (now table)) × (z .states ≤ length (now words)) ⌝ }
-    ensures { λ r. ⌜ Judged (filledChecks (machineOf (frameOf z) (now (table .entry))) (now (words .entry))) Passed r ⌝ }
+fn check_moves(frame: Frame, table: &[u8], words: &[u16]) -> Answer
+    requires { ⌜ Tabled (machineOf frame (now table)) × (frame .states ≤ length (now words)) ⌝ }
+    ensures { λ r. ⌜ Judged (filledChecks (machineOf frame (now (table .entry))) (now (words .entry))) Passed r ⌝ }
 {
-    let frame = Frame {
-        inputs: z.inputs,
-        states: z.states,
-        initial: z.initial,
-    };
     let a = check_sound(frame, table, words);
     if a.number == 4 {
         return Answer {
@@ -148,8 +169,8 @@ fn check_moves(z: Sizes, table: &[u8], words: &[u16]) -> Answer
 }
 
 // Refusals 4 to 13. On success the table and the words are filled; after a refusal their needed elements may be anything.
-fn settle(file: &[u8], z: Sizes, table: &mut [u8], words: &mut [u16]) -> Answer
-    requires { ⌜ Laid (now file) z × (couplesOf z ≤ length (now table)) × (z .states ≤ length (now words)) ⌝ }
+fn settle(file: &[u8], z: Sizes, frame: Frame, table: &mut [u8], words: &mut [u16]) -> Answer
+    requires { ⌜ Laid (now file) z × FrameOf (now file) z frame × (couplesOf z ≤ length (now table)) × (z .states ≤ length (now words)) ⌝ }
     ensures judged { λ r. ⌜ Judged (soundChecks (now (file .entry)) z) Passed r ⌝ }
     ensures table { λ r. ⌜ Filled (couplesOf z) (λ p x. r .number ≡ 0 → MoveAt (now (file .entry)) z (settings z) p x) (now (table .entry)) (now (table .exit)) ⌝ }
     ensures words { λ r. ⌜ Filled (z .states) (λ s w. r .number ≡ 0 → w ≡ wordOf (now (file .entry)) z s) (now (words .entry)) (now (words .exit)) ⌝ }
@@ -168,7 +189,7 @@ fn settle(file: &[u8], z: Sizes, table: &mut [u8], words: &mut [u16]) -> Answer
             place: p,
         };
     }
-    check_moves(z, table, words)
+    check_moves(frame, table, words)
 }
 
 fn blank_table(table: &mut [u8], count: usize)
@@ -190,11 +211,11 @@ fn blank_words(words: &mut [u16], count: usize)
 }
 
 // Refusals 4 to 13, and the table and the words as they are left.
-fn read_sound(file: &[u8], z: Sizes, table: &mut [u8], words: &mut [u16]) -> Answer
-    requires { ⌜ Laid (now file) z × (couplesOf z ≤ length (now table)) × (z .states ≤ length (now words)) ⌝ }
+fn read_sound(file: &[u8], z: Sizes, frame: Frame, table: &mut [u8], words: &mut [u16]) -> Answer
+    requires { ⌜ Laid (now file) z × FrameOf (now file) z frame × (couplesOf z ≤ length (now table)) × (z .states ≤ length (now words)) ⌝ }
     ensures { λ r. ⌜ SoundAs (now (file .entry)) z (now (table .entry)) (now (words .entry)) r (now (table .exit)) (now (words .exit)) ⌝ }
 {
-    let a = settle(file, z, table, words);
+    let a = settle(file, z, frame, table, words);
     if a.number != 0 {
         blank_table(table, couples(z));
         blank_words(words, z.states);
@@ -213,13 +234,14 @@ fn refusal(a: Answer) -> Contents
             inputs: 0,
             states: 0,
             initial: 0,
+            never: [0; WORDS],
         },
     }
 }
 
-// What is answered and handed on of a file that passes 1 to 3: its sizes and evolutions where it is sound.
-fn outcome(file: &[u8], z: Sizes, a: Answer) -> Core
-    requires { ⌜ Laid (now file) z ⌝ }
+// What is answered and handed on of a file that passes 1 to 3: its sizes, its frame and its evolutions where it is sound.
+fn outcome(file: &[u8], z: Sizes, frame: Frame, a: Answer) -> Core
+    requires { ⌜ Laid (now file) z × FrameOf (now file) z frame ⌝ }
     ensures { λ r. ⌜ OutcomeAs (now (file .entry)) z a r ⌝ }
 {
     let from = record_at(z, z.states);
@@ -237,11 +259,7 @@ fn outcome(file: &[u8], z: Sizes, a: Answer) -> Core
         answer: a,
         outputs: z.outputs,
         evolutions: z.evolutions,
-        frame: Frame {
-            inputs: z.inputs,
-            states: z.states,
-            initial: z.initial,
-        },
+        frame: frame,
     };
     Core {
         contents: contents,
@@ -257,16 +275,17 @@ pub(crate) fn read_core(file: &[u8], table: &mut [u8], words: &mut [u16], record
     ensures { λ r. ⌜ CoreAs (now (file .entry)) (now (table .entry)) (now (words .entry)) records r (now (table .exit)) (now (words .exit)) ⌝ }
 {
     let shape = check_shape(file, table.len(), words.len(), records);
-    if shape.number != 0 {
+    if shape.answer.number != 0 {
         return Core {
-            contents: refusal(shape),
+            contents: refusal(shape.answer),
             from: 0,
             text: 0,
             count: 0,
             good: false,
         };
     }
-    let z = sizes_of(file);
-    let a = read_sound(file, z, table, words);
-    outcome(file, z, a)
+    let z = shape.z;
+    let frame = frame_of(file, z);
+    let a = read_sound(file, z, frame, table, words);
+    outcome(file, z, frame, a)
 }

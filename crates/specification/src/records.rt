@@ -1,16 +1,17 @@
 // Sizes and records: refusals 2, 4, 6 and 7.
 ghost use mathlib.Core.Path.{_≡_};
-ghost use Prim.Native.Nat.{_+_, _*_, _<_, _≤_, _^_};
-ghost use lib.ListN.{length};
+ghost use Prim.Native.Nat.{ℕ, _+_, _*_, _<_, _≤_, _^_};
+ghost use lib.ListN.{length, getD};
 ghost use Rattle.verdict.specs.Checks.{Decides, Finds};
-ghost use Rattle.specification.specs.Limits.{mostBytes, mostOutputs};
-ghost use Rattle.specification.specs.File.{entryAt, kinds, startOf, WellFormed};
+ghost use Rattle.specification.specs.Limits.{mostBytes, mostOutputs, mostText};
+ghost use Rattle.specification.specs.File.{kinds, WellFormed};
 ghost use Rattle.specification.specs.Records.{sumTo, couples as couplesOf, records, recordAt, byteOf, word as wordOf, source as sourceOf, target as targetOf, textLength, sizesOf, Ranges, Sized};
-ghost use Rattle.specification.specs.inner.Private.{Laid, Wrong};
+ghost use Rattle.specification.specs.inner.Private.{mostKinds, Decoded, Laid, Wrong};
 use crate::EVOLUTIONS;
 use crate::OUTPUTS;
-use crate::file::first_body;
-use crate::file::length_of;
+use crate::TEXT;
+use crate::file::Bodies;
+use crate::file::KINDS;
 use crate::file::two_at;
 use basics::wide;
 use machine::INPUTS;
@@ -18,7 +19,7 @@ use machine::STATES;
 use machine::settings;
 use verdict::Found;
 
-// The sizes of a file, and where its records begin.
+// The sizes of a file, where its records begin, and how many bodies there are beyond kind 4.
 pub(crate) struct Sizes {
     pub inputs: usize,
     pub outputs: usize,
@@ -26,6 +27,7 @@ pub(crate) struct Sizes {
     pub initial: usize,
     pub evolutions: usize,
     pub first: usize,
+    pub more: usize,
 }
 
 // The checks of single records: refusals 4, 6 and 7.
@@ -35,18 +37,19 @@ pub(crate) enum RecordCheck {
     Twice,
 }
 
-pub(crate) fn sizes_of(file: &[u8]) -> Sizes
-    requires { ⌜ (entryAt kinds ≤ length (now file)) × (startOf (now file) 0 + 4 ≤ length (now file)) ⌝ }
+pub(crate) fn sizes_of(file: &[u8], b: Bodies) -> Sizes
+    requires { ⌜ WellFormed (now file) × Decoded (now file) b ⌝ }
     ensures { λ r. ⌜ r ≡ sizesOf (now (file .entry)) ⌝ }
 {
-    let at = first_body(file);
+    let at = b.at[0];
     Sizes {
         inputs: wide(file[at]),
         outputs: wide(file[at + 1]),
         states: wide(file[at + 2]),
         initial: wide(file[at + 3]),
-        evolutions: length_of(file, 2) / 3,
-        first: at + length_of(file, 0),
+        evolutions: b.length[2] / 3,
+        first: b.at[1],
+        more: b.count - KINDS,
     }
 }
 
@@ -146,19 +149,34 @@ fn in_range(z: Sizes) -> bool
     z.evolutions <= EVOLUTIONS
 }
 
+// Whether the bodies beyond kind 4 have no more bytes than a condition may have.
+fn bodies_fit(b: Bodies) -> bool
+    requires { ⌜ b .count ≤ mostKinds ⌝ }
+    ensures { λ r. ⌜ Decides ((k : ℕ) → kinds ≤ k → k < b .count → getD (b .length) k 0 ≤ mostText) r ⌝ }
+{
+    for k in KINDS..b.count {
+        if TEXT < b.length[k] {
+            return false;
+        }
+    }
+    true
+}
+
 // Whether refusal 2 does not apply.
-pub(crate) fn sized(file: &[u8]) -> bool
-    requires { ⌜ WellFormed (now file) ⌝ }
+pub(crate) fn sized(file: &[u8], b: Bodies, z: Sizes) -> bool
+    requires { ⌜ WellFormed (now file) × Decoded (now file) b × (z ≡ sizesOf (now file)) ⌝ }
     ensures { λ r. ⌜ Decides (Sized (now (file .entry))) r ⌝ }
 {
-    let z = sizes_of(file);
     if !in_range(z) {
         return false;
     }
-    if length_of(file, 1) != 3 * z.states {
+    if b.length[1] != 3 * z.states {
         return false;
     }
-    texts_sum(file, z, z.states + z.evolutions) == length_of(file, 3)
+    if texts_sum(file, z, z.states + z.evolutions) != b.length[3] {
+        return false;
+    }
+    bodies_fit(b)
 }
 
 // Whether a word has a bit beyond the outputs.

@@ -8,7 +8,7 @@ ghost use Rattle.verdict.specs.Buffers.{Filled};
 ghost use Rattle.condition.specs.Condition.{Says, Holds};
 ghost use Rattle.machine.specs.Limits.{mostSettings};
 ghost use Rattle.specification.specs.Records.{records};
-ghost use Rattle.specification.specs.Rules.{textOf, Unreads, ruleOf, leadsTo, TwoRules};
+ghost use Rattle.specification.specs.Rules.{textOf, conditions, conditionOf, Unreads, ruleOf, leadsTo, TwoRules};
 ghost use Rattle.specification.specs.inner.Private.{Laid, Placed, Follows, Linked, Noted};
 use crate::EVOLUTIONS;
 use crate::records::Sizes;
@@ -22,13 +22,13 @@ use machine::STATES;
 use verdict::Answer;
 use verdict::Found;
 
-// The most records, a text each.
-pub(crate) const TEXTS: usize = STATES + EVOLUTIONS;
+// The most places of texts: where the text of each record begins, that of kind 5, and where it ends.
+pub(crate) const TEXTS: usize = STATES + EVOLUTIONS + 2;
 
 // What a table holds where there is no move.
 pub(crate) const BLANK_MOVE: u8 = 255;
 
-// Where the text of each record begins.
+// Where the text of each condition begins, and where the last one ends.
 pub(crate) fn starts_of(file: &[u8], z: Sizes) -> [usize; TEXTS]
     requires { ⌜ Laid (now file) z ⌝ }
     ensures { λ t. ⌜ Placed (now (file .entry)) z t ⌝ }
@@ -40,17 +40,17 @@ pub(crate) fn starts_of(file: &[u8], z: Sizes) -> [usize; TEXTS]
         starts[r] = at;
         at = at + text_length(file, z, r);
     }
+    starts[count] = at;
+    starts[count + 1] = file.len();
     starts
 }
 
-// What the condition of record r says at the setting v.
+// What condition r says at the setting v.
 fn says(file: &[u8], z: Sizes, starts: &[usize; TEXTS], r: usize, v: usize) -> Meaning
-    requires { ⌜ Placed (now file) z (now starts) × (r < records z) ⌝ }
-    ensures { λ m. ⌜ Says (z .inputs) v (textOf (now (file .entry)) z r) m ⌝ }
+    requires { ⌜ Placed (now file) z (now starts) × (r < conditions z) ⌝ }
+    ensures { λ m. ⌜ Says (z .inputs) v (conditionOf (now (file .entry)) z r) m ⌝ }
 {
-    let at = starts[r];
-    let end = at + text_length(file, z, r);
-    condition::read(&file[at..end], z.inputs, v)
+    condition::read(&file[starts[r]..starts[r + 1]], z.inputs, v)
 }
 
 // Refusal 5.
@@ -58,7 +58,7 @@ pub(crate) fn check_texts(file: &[u8], z: Sizes, starts: &[usize; TEXTS]) -> Ans
     requires { ⌜ Placed (now file) z (now starts) ⌝ }
     ensures { λ t. ⌜ Judged (check 5 (Unreads (now (file .entry)) z) ∷ []) Passed t ⌝ }
 {
-    let count = z.states + z.evolutions;
+    let count = z.states + z.evolutions + z.more;
     for r in 0..count {
         let Meaning::Is(_) = says(file, z, starts, r, 0) else {
             return Answer {

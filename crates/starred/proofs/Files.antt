@@ -18,7 +18,7 @@ use Rattle.starred.specs.Rows.{lampTable, gateTable, Answered}
 use Rattle.starred.proofs.Machines.{lamp-sound, gate-sound}
 use Rattle.starred.proofs.Records.{none-same}
 use Rattle.starred.proofs.Rules.{spelling, fires, none-two, Ruled, ruled}
-use Rattle.starred.proofs.Reading.{Shaped, shape, shaped, succeeds}
+use Rattle.starred.proofs.Reading.{Shaped, shape, shaped, unruled, succeeds}
 
 -- `a` and `!a`
 lit : Tree condition
@@ -52,7 +52,7 @@ lamp-reached (suc (suc s)) h = absurd (omega arith)
 
 pub lamp-read : Answered lampFile 0 0
 unfolding lampWith lampTable startOf every
-lamp-read = succeeds lamp-shaped lamp-sound lamp-ruled (none-same lampFile refl) lamp-reached 0 (record { below = lit< tt; rests = refl; allowed = tt })
+lamp-read = succeeds lamp-shaped lamp-sound lamp-ruled (none-same lampFile refl) lamp-reached 0 (record { below = lit< tt; rests = refl; allowed = unruled lamp-shaped 0 })
 
 pub lamp-table : TableOf lampFile lampTable
 unfolding lampWith lampTable startOf
@@ -140,7 +140,7 @@ gate-reached (suc (suc (suc s))) h = absurd (omega arith)
 
 pub gate-read : Answered gateFile 0 0
 unfolding gateFile gateTable startOf every
-gate-read = succeeds gate-shaped gate-sound gate-ruled (none-same gateFile refl) gate-reached 5 (record { below = lit< tt; rests = refl; allowed = tt })
+gate-read = succeeds gate-shaped gate-sound gate-ruled (none-same gateFile refl) gate-reached 5 (record { below = lit< tt; rests = refl; allowed = unruled gate-shaped 5 })
 
 pub gate-moves : TableOf gateFile gateTable
 unfolding gateFile gateTable startOf

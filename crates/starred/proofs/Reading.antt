@@ -12,17 +12,20 @@ use Rattle.verdict.proofs.Order.{pass, ends, long}
 use Rattle.machine.specs.Moves.{tableMoves, Transient, SameWord, Reached, Start}
 use Rattle.machine.specs.Runs.{machineOf, Sound}
 use Rattle.machine.proofs.Same.{transient-into, reached-into, start-into}
-use Rattle.specification.specs.File.{mark, WellFormed}
-use Rattle.specification.specs.Records.{sizesOf, frameOf, settings, word, Sized, Beyond, Own, Twice}
+use Rattle.specification.specs.File.{mark, countOf, kinds, WellFormed}
+use Rattle.specification.specs.Records.{sizesOf, settings, word, Sized, Beyond, Own, Twice}
 use Rattle.specification.specs.Rules.{Unreads, Moves, MayStart}
 use Rattle.specification.specs.Reading.{ruleChecks, moveChecks}
-use Rattle.starred.specs.Rows.{Answered}
-use Rattle.starred.proofs.Records.{formed, well-formed, ranged, sized, recorded, record-checks}
+use Rattle.specification.proofs.Never.{none-never}
+use Rattle.specification.proofs.Before.{formed as four-formed, sized as four-fits}
+use Rattle.starred.specs.Rows.{free, Answered}
+use Rattle.starred.proofs.Records.{formed, four-kinds, ranged, four-sized, recorded, record-checks}
 use Rattle.starred.proofs.Rules.{spelling, none-unread, Ruled}
 
--- checks 1, 2, 4, 5, 6 and 7 fail nowhere
+-- checks 1, 2, 4, 5, 6 and 7 fail nowhere, and there is no kind 5
 pub record Shaped (file : List ℕ) : Type 0 where
   pub formed : WellFormed file
+  pub four : countOf file ≡ kinds
   pub sized : Sized file
   pub inside : None (Beyond file (sizesOf file))
   pub read : None (Unreads file (sizesOf file))
@@ -34,15 +37,20 @@ pub shape : (file : List ℕ) (trees : List (Tree condition)) → spelling file 
     → formed file ≡ true → ranged file ≡ true → recorded file ≡ true → Shaped file
 shape file trees spelt marked e f g =
     let x = record-checks file g in
-    record { formed = well-formed file marked e; sized = sized file f; inside = x .0; read = none-unread file trees spelt; changes = x .1; once = x .2 }
+    let y = four-kinds file marked e in
+    record { formed = four-formed (y .count) y; four = y .count; sized = four-fits (y .count) (four-sized file f); inside = x .0; read = none-unread file trees spelt (y .count); changes = x .1; once = x .2 }
 
 module _ {file : List ℕ} (x : Shaped file) where
+  -- no setting is ruled out
+  pub unruled : (v : ℕ) → MayStart file (sizesOf file) v
+  unruled v = none-never (meets (x .formed)) (x .four)
+
   pub shaped : {number place : ℕ} → Judged (ruleChecks file (sizesOf file) ++ moveChecks file (sizesOf file)) Passed (record { number = number; place = place }) → Answered file number place
   shaped v table words records a b c =
       pass (meets (x .formed)) (pass (meets (x .sized)) (pass (long a) (pass (long b) (pass (long c)
       (pass (x .inside) (pass (x .read) (pass (x .changes) (pass (x .once) v))))))))
 
-  module _ {T : List ℕ} (ok : Sound (machineOf (frameOf (sizesOf file)) T)) (rules : Ruled file T) where
+  module _ {T : List ℕ} (ok : Sound (machineOf (free (sizesOf file .inputs) (sizesOf file .states) (sizesOf file .initial)) T)) (rules : Ruled file T) where
     calm : None (Transient (Moves file (sizesOf file)) (sizesOf file .states) (settings (sizesOf file)))
     calm = record {
       nowhere = λ p f.

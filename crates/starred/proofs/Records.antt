@@ -13,8 +13,9 @@ use Rattle.machine.specs.Moves.{SameWord}
 use Rattle.verdict.proofs.Tests.{it-fails, decides-map, decides-leb, decides-equal, decides-below, decides-not, decides-either}
 use Rattle.machine.proofs.Tests.{every, decides-every}
 use Rattle.specification.specs.Limits.{mostOutputs, mostEvolutions, mostBytes}
-use Rattle.specification.specs.File.{mark, countOf, entryAt, kinds, kindOf, offsetOf, lengthOf, startOf, Entry, WellFormed}
-use Rattle.specification.specs.Records.{sumTo, sizesOf, records, word, source, target, textLength, Sized, Evolves, Beyond, Own, Twice}
+use Rattle.specification.specs.File.{mark, countOf, entryAt, kinds, kindOf, offsetOf, lengthOf, startOf}
+use Rattle.specification.specs.Before.{FourKinds, FourSized}
+use Rattle.specification.specs.Records.{sumTo, sizesOf, records, word, source, target, textLength, Evolves, Beyond, Own, Twice}
 use Rattle.specification.specs.Records.Beyond.{output-beyond, source-beyond, target-beyond}
 
 decides-most : (c d : ℕ) → Decides (c ≤ d) (leb c d)
@@ -39,16 +40,19 @@ module _ (file : List ℕ) where
       && eqb (lengthOf file 1 % 3) 0
       && eqb (lengthOf file 2 % 3) 0
 
-  decides-entry : (k : ℕ) → Decides (Entry file k) (eqb (kindOf file k) (k + 1) && eqb (offsetOf file k) (startOf file k))
-  decides-entry k = decides-map (λ x. record { kind = x .0; offset = x .1 }) (λ x. (x .kind, x .offset)) (decides-equal _ _ also decides-equal _ _)
-
-  pub well-formed : take 4 file ≡ mark → formed ≡ true → WellFormed file
-  well-formed marked e =
-      let x = (decides-most _ _ also decides-most _ _ also decides-equal _ _ also decides-every kinds _ (Entry file) decides-entry also decides-equal _ _
+  pub four-kinds : take 4 file ≡ mark → formed ≡ true → FourKinds file
+  four-kinds marked e =
+      let x = (decides-most _ _ also decides-most _ _ also decides-equal _ _
+      also decides-every kinds _ (λ k. (kindOf file k ≡ k + 1) × (offsetOf file k ≡ startOf file k)) (λ k. decides-equal _ _ also decides-equal _ _) also decides-equal _ _
       also decides-equal _ _ also decides-equal _ _ also decides-equal _ _) .holds e in
       record {
-        headed = record { few = x .0 .0 .0 .0 .0 .0 .0; enough = x .0 .0 .0 .0 .0 .0 .1; marked = marked; count = x .0 .0 .0 .0 .0 .1 };
-        entries = record { each = x .0 .0 .0 .0 .1; ends = x .0 .0 .0 .1 };
+        few = x .0 .0 .0 .0 .0 .0 .0;
+        enough = x .0 .0 .0 .0 .0 .0 .1;
+        marked = marked;
+        count = x .0 .0 .0 .0 .0 .1;
+        kind = λ k h. x .0 .0 .0 .0 .1 k h .0;
+        offset = λ k h. x .0 .0 .0 .0 .1 k h .1;
+        ends = x .0 .0 .0 .1;
         measured = record { sizes = x .0 .0 .1; states = x .0 .1; evolutions = x .1 };
       }
 
@@ -66,8 +70,8 @@ module _ (file : List ℕ) where
       && eqb (lengthOf file 1) (3 * sizesOf file .states)
       && eqb (sumTo (textLength file (sizesOf file)) (records (sizesOf file))) (lengthOf file 3)
 
-  pub sized : ranged ≡ true → Sized file
-  sized e =
+  pub four-sized : ranged ≡ true → FourSized file
+  four-sized e =
       let x = (decides-most _ _ also decides-most _ _ also decides-most _ _ also decides-most _ _ also decides-most _ _ also decides-most _ _
       also decides-below _ _ also decides-most _ _ also decides-equal _ _ also decides-equal _ _) .holds e in
       let r = x .0 .0 in

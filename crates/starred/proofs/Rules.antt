@@ -20,8 +20,10 @@ use Rattle.machine.proofs.Couples.{couple-below}
 use Rattle.machine.proofs.Same.{Into}
 use Rattle.verdict.proofs.Tests.{true≢false, it-holds, it-fails, decides-map, decides-true, decides-equal, decides-below, decides-both, decides-is}
 use Rattle.machine.proofs.Tests.{every, decides-every}
+use Rattle.specification.specs.File.{countOf, kinds}
 use Rattle.specification.specs.Records.{sizesOf, settings, couples, records}
 use Rattle.specification.specs.Rules.{textOf, ruleOf, leadsTo, Unreads, Fires, TwoRules, NoRule, Moves, MoveAt}
+use Rattle.specification.proofs.Conditions.{condition-record}
 
 -- two tests say the same
 abbrev same : Bool → Bool → Bool
@@ -107,9 +109,13 @@ module _ (file : List ℕ) where
           let (t, o) = both _ _ e in
           record { tree = treeOf trees r; spelt = one-text _ _ t; nested = leb-true _ _ o; known = letters-below (sizesOf file .inputs) (treeOf trees r) k }
 
-      -- refusal 5
-      pub none-unread : None (Unreads file (sizesOf file))
-      none-unread = record { nowhere = λ r x. x .unread (reads r (x .below)) }
+      -- refusal 5, without kind 5
+      pub none-unread : countOf file ≡ kinds → None (Unreads file (sizesOf file))
+      none-unread four = record {
+        nowhere = λ r x.
+            let h : r < records (sizesOf file) = omega (arith, x .below) in
+            x .unread (rw (condition-record file (sizesOf file) r h) (reads r h));
+      }
 
       decides-fires : (s v r : ℕ) → r < records (sizesOf file) → Decides (Fires file (sizesOf file) s v r) (firing s v r)
       unfolding reads

@@ -3,11 +3,13 @@ use mathlib.Core.Path.{_≡_}
 use mathlib.Core.Bool.{true, false}
 use mathlib.Core.List.{List, [], _∷_}
 use Prim.Native.Nat.{ℕ, _≤_}
-use lib.ListN.{getD}
+use lib.ListN.{getD, replicate}
 use Rattle.basics.specs.Texts.{letters}
 use Rattle.verdict.specs.Checks.{Passed, Judged}
 use Rattle.condition.specs.Condition.{Says}
 use Rattle.condition.specs.declared.Meaning.the-variants.{Is}
+use Rattle.sets.specs.Sets.{words}
+use Rattle.machine.specs.declared.Frame.{Frame}
 use Rattle.machine.specs.Runs.{Machine, machineOf, couples, RanksOf}
 use Rattle.machine.specs.Shortest.{RunTo}
 use Rattle.specification.specs.Records.{sizesOf, couples as couplesOf}
@@ -37,11 +39,15 @@ gateTable =
     ∷ 1 ∷ 2 ∷ 2 ∷ 2 ∷ 1 ∷ 0 ∷ 0 ∷ 0 ∷ 0 ∷ 0 ∷ 2 ∷ 2 ∷ 0 ∷ 0 ∷ 0 ∷ 0
     ∷ 2 ∷ 2 ∷ 2 ∷ 2 ∷ 1 ∷ 0 ∷ 0 ∷ 0 ∷ 2 ∷ 2 ∷ 2 ∷ 2 ∷ 0 ∷ 0 ∷ 0 ∷ 0 ∷ []
 
+-- a frame that rules no setting out
+abbrev pub free : ℕ → ℕ → ℕ → Frame
+free inputs states initial = record { inputs = inputs; states = states; initial = initial; never = replicate words 0 }
+
 abbrev pub lamp : Machine
-lamp = machineOf (record { inputs = 1; states = 2; initial = 0 }) lampTable
+lamp = machineOf (free 1 2 0) lampTable
 
 abbrev pub gate : Machine
-gate = machineOf (record { inputs = 4; states = 3; initial = 0 }) gateTable
+gate = machineOf (free 4 3 0) gateTable
 
 -- a row to a field
 pub record Rows : Type 0 where

@@ -2,16 +2,18 @@
 -- sound machine with a long table passes.
 use mathlib.Core.Path.{_≡_, refl, subst}
 use mathlib.Core.List.{List}
-use Prim.Native.Nat.{ℕ, _*_, _^_, _≤_}
-use lib.ListN.{length}
+use Prim.Native.Nat.{ℕ, _+_, _*_, _%_, _^_, _≤_, _<_}
+use native.Mathlib.Omega.{arith}
+use lib.ListN.{length, getD}
+use lib.Arith.{digits-lt}
 use Rattle.verdict.specs.Checks.{Passed, Judged}
 use Rattle.verdict.specs.declared.Answer.{Answer}
 use Rattle.verdict.proofs.Order.{Passes, judged-passes, long, roomy}
 use Rattle.verdict.proofs.Tests.{meets}
 use Rattle.machine.specs.Limits.{mostInputs, Sized}
-use Rattle.machine.specs.Runs.{Machine, size}
+use Rattle.machine.specs.Runs.{Machine, size, move}
 use Rattle.machine.proofs.Couples.{settings-bound}
-use Rattle.machine.proofs.Sizes.{settings-are, sizes}
+use Rattle.machine.proofs.Sizes.{settings-are, sizes, couples-few}
 use Rattle.machine.proofs.Soundness.{sound-machine}
 use Rattle.tables.specs.Tables.{Tabled, sizeChecks, moveChecks, movesAt, tableChecks}
 use Rattle.tables.specs.inner.Fits.{Small, Fit, Checked}
@@ -50,3 +52,14 @@ module _ {m : Machine} where
 
   pub size-passes : Tabled m → Passes (sizeChecks m)
   size-passes t = (meets (t .sized), (long (t .long), tt))
+
+-- a couple's number by a shift: it stands in the table, and the element there is its move
+module _ {m : Machine} (t : Tabled m) {s v : ℕ} (h : s < m .states) (k : v < size m) where
+  shifted : s * size m % 2 ^ 64 ≡ s * size m
+  shifted = omega (arith, digits-lt h k, couples-few (t .sized))
+
+  pub couple-inside : s * size m % 2 ^ 64 + v < length (m .table)
+  couple-inside = omega (arith, shifted, digits-lt h k, t .long)
+
+  pub couple-move : getD (m .table) (s * size m % 2 ^ 64 + v) 0 ≡ move m s v
+  couple-move = rw shifted

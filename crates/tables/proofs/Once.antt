@@ -14,6 +14,9 @@ module _ (m : Machine) where
   pub tabled-only : (r s : Bool) → Decides (Tabled m) r → Decides (Tabled m) s → r ≡ s
   tabled-only r s = decides-unique _ r s
 
+  pub is-start-only : (v : ℕ) (r s : Bool) → Decides (Tabled m × Starts m v) r → Decides (Tabled m × Starts m v) s → r ≡ s
+  is-start-only v r s = decides-unique _ r s
+
   pub started-only : (r s : Bool) → Decides (Tabled m × ((v : ℕ) × Starts m v)) r → Decides (Tabled m × ((v : ℕ) × Starts m v)) s → r ≡ s
   started-only r s = decides-unique _ r s
 

@@ -9,10 +9,11 @@ ghost use Rattle.tables.specs.inner.Fits.{Fit};
 use crate::couples::check_moves;
 use crate::states::first_same;
 use crate::states::first_unreached;
-use crate::states::has_start;
+use basics::wide;
 use machine::Frame;
 use machine::settings;
 use machine::sized;
+use machine::usable;
 use verdict::Answer;
 use verdict::Found;
 
@@ -84,7 +85,7 @@ pub fn check_sound(frame: Frame, table: &[u8], words: &[u16]) -> Answer
 
 // Refusals 11, 12 and 13, at m settings.
 fn check_states(frame: Frame, table: &[u8], words: &[u16], m: usize) -> Answer
-    requires { ⌜ Fit (now table) (frame .states) m (frame .initial) × (frame .states ≤ length (now words)) × (m ≡ 2 ^ frame .inputs) ⌝ }
+    requires { ⌜ Tabled (machineOf frame (now table)) × Fit (now table) (frame .states) m (frame .initial) × (frame .states ≤ length (now words)) × (m ≡ 2 ^ frame .inputs) ⌝ }
     ensures { λ r. ⌜ Judged (stateChecks (machineOf frame (now (table .entry))) (now (words .entry))) Passed r ⌝ }
 {
     if let Found::At(s) = first_same(words, frame.states) {
@@ -99,7 +100,7 @@ fn check_states(frame: Frame, table: &[u8], words: &[u16], m: usize) -> Answer
             place: s,
         };
     }
-    if !has_start(frame, table, m) {
+    if !started(frame, table) {
         return Answer {
             number: 13,
             place: 0,
@@ -111,12 +112,31 @@ fn check_states(frame: Frame, table: &[u8], words: &[u16], m: usize) -> Answer
     }
 }
 
-// Whether a table has a start, refusals 2 and 3 passed: otherwise refusal 13.
-pub fn started(frame: Frame, table: &[u8]) -> bool
-    ensures { λ r. ⌜ Decides (Tabled (machineOf frame (now (table .entry))) × ((v : ℕ) × Starts (machineOf frame (now (table .entry))) v)) r ⌝ }
+// Whether a setting is a start of a table, refusals 2 and 3 passed.
+pub fn is_start(frame: Frame, table: &[u8], setting: usize) -> bool
+    ensures { λ r. ⌜ Decides (Tabled (machineOf frame (now (table .entry))) × Starts (machineOf frame (now (table .entry))) setting) r ⌝ }
 {
     if !tabled(frame, table) {
         return false;
     }
-    has_start(frame, table, settings(frame.inputs))
+    if settings(frame.inputs) <= setting {
+        return false;
+    }
+    let initial = frame.initial;
+    if wide(table[(initial << frame.inputs) + setting]) != initial {
+        return false;
+    }
+    usable(frame, setting)
+}
+
+// Whether a table has a start, refusals 2 and 3 passed: otherwise refusal 13.
+pub fn started(frame: Frame, table: &[u8]) -> bool
+    ensures { λ r. ⌜ Decides (Tabled (machineOf frame (now (table .entry))) × ((v : ℕ) × Starts (machineOf frame (now (table .entry))) v)) r ⌝ }
+{
+    for v in 0..settings(frame.inputs) {
+        if is_start(frame, table, v) {
+            return true;
+        }
+    }
+    false
 }

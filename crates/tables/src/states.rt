@@ -1,16 +1,11 @@
-// Refusals 11, 12 and 13: searches over the states, and over the settings of the initial one.
-ghost use mathlib.Core.Path.{_≡_};
+// Refusals 11 and 12: searches over the states.
 ghost use mathlib.Core.Bool.{false};
-ghost use Prim.Native.Nat.{ℕ, _*_, _<_, _≤_, _^_};
+ghost use Prim.Native.Nat.{ℕ, _*_, _<_, _≤_};
 ghost use lib.ListN.{length, getD};
 ghost use Rattle.verdict.specs.Checks.{Decides, Finds};
-ghost use Rattle.machine.specs.Limits.{mostSettings, mostStates};
 ghost use Rattle.machine.specs.Moves.{tableMoves, Reached, Unreached, SameWord};
-ghost use Rattle.machine.specs.Runs.{machineOf, Starts};
 ghost use Rattle.tables.specs.inner.Fits.{Fit};
-use basics::element;
 use basics::wide;
-use machine::Frame;
 use machine::STATES;
 use verdict::Found;
 
@@ -75,18 +70,4 @@ pub(crate) fn first_unreached(table: &[u8], states: usize, m: usize, initial: us
         }
     }
     Found::Nothing
-}
-
-// Whether some setting is a start: otherwise refusal 13.
-pub(crate) fn has_start(frame: Frame, table: &[u8], m: usize) -> bool
-    requires { ⌜ (frame .initial < mostStates) × (m ≤ mostSettings) × (m ≡ 2 ^ frame .inputs) ⌝ }
-    ensures { λ r. ⌜ Decides ((v : ℕ) × Starts (machineOf frame (now (table .entry))) v) r ⌝ }
-{
-    let initial = frame.initial;
-    for v in 0..m {
-        if element(table, initial * m + v) == initial {
-            return true;
-        }
-    }
-    false
 }

@@ -1,20 +1,19 @@
 //! Damaged files: faults of the description, of the bytes, and files at and beyond the limits.
 
+use super::contents::{first_body, other_bodies, recount, shift_entry, wrap_contents};
 use super::files::{largest_file, random_file, settled_file};
-use super::texts::{nested, random_condition, TEXT};
+use super::never::spoil_never;
+use super::texts::{nested, random_condition};
 use super::Random;
-use crate::file::{File, Leaving, State};
-use crate::plain::{FILE, INPUTS, OUTPUTS, STATES};
-
-/// Bytes of a file before its first body.
-const CONTENTS: usize = 25;
+use crate::file::{with_contents, File, Leaving, State};
+use crate::plain::{FILE, INPUTS, OUTPUTS, STATES, TEXT};
 
 /// Faults of the description, each of a kind that some check is there for.
 fn spoil(random: &mut Random, file: &mut File) {
     let states = file.states.len();
     let state = random.below(states);
-    let record = random.below(states + file.evolutions.len());
-    match random.below(14) {
+    let record = random.below(file.conditions_mut().count());
+    match random.below(16) {
         0 => file.states[state].word ^= 1 << random.below(OUTPUTS),
         1 => file.states[state].word = file.states[random.below(states)].word,
         2 => spoil_text(random, file, record),
@@ -26,6 +25,7 @@ fn spoil(random: &mut Random, file: &mut File) {
         8 => drop_state_or_evolution(random, file),
         9 => add_lonely_state(file),
         10 => no_start(file),
+        11 | 12 => spoil_never(random, file),
         _ => spoil_evolution(random, file),
     }
 }
@@ -118,64 +118,30 @@ fn spoil_evolution(random: &mut Random, file: &mut File) {
 
 /// Faults of the bytes: contents, sizes, lengths, the end.
 fn spoil_bytes(random: &mut Random, bytes: &mut Vec<u8>) {
-    if bytes.is_empty() {
-        return;
-    }
-    let length = bytes.len();
-    match random.below(12) {
-        0 | 1 => bytes[random.below(length.min(CONTENTS))] ^= 1 << random.below(8),
-        2 => bytes[random.below(length.min(CONTENTS))] = random.bits() as u8,
+    let (length, contents) = (bytes.len(), first_body(bytes));
+    match random.below(13) {
+        0 | 1 => bytes[random.below(contents)] ^= 1 << random.below(8),
+        2 => bytes[random.below(contents)] = random.bits() as u8,
         3 => bytes.truncate(random.below(length)),
         4 => bytes.extend((0..random.between(1, 4)).map(|_| b'a')),
         5 => shift_entry(random, bytes),
         6 => swap_lengths(random, bytes),
-        7 if length > CONTENTS + 3 => bytes[CONTENTS + random.below(4)] = random.below(40) as u8,
+        7 => bytes[contents + random.below(4)] = random.below(40) as u8,
         8 if random.once_in(2) => wrap_contents(bytes),
         8 => bytes.truncate(length - 1),
-        9 => bytes.truncate(CONTENTS),
+        9 => bytes.truncate(contents),
+        10 => recount(random, bytes),
         _ => bytes[random.below(length)] ^= 1 << random.below(8),
     }
 }
 
-/// Makes one offset or length of the contents larger or smaller by little, or by the same in two.
-fn shift_entry(random: &mut Random, bytes: &mut [u8]) {
-    if bytes.len() < CONTENTS {
-        return;
-    }
-    let entry = 5 + 5 * random.below(4);
-    let step = random.pick(&[1u8, 3, 255, 253]);
-    let length = entry + 3;
-    bytes[length] = bytes[length].wrapping_add(*step);
-    if random.once_in(2) && entry < 20 {
-        bytes[entry + 6] = bytes[entry + 6].wrapping_add(*step);
-        if random.once_in(2) {
-            bytes[entry + 8] = bytes[entry + 8].wrapping_sub(*step);
-        }
-    }
-}
-
-/// Gives kind 2 so many bytes that the offsets after it only fit modulo 65,536.
-fn wrap_contents(bytes: &mut [u8]) {
-    if bytes.len() < 29 {
-        return;
-    }
-    let number = |bytes: &mut [u8], at: usize, value: usize| {
-        bytes[at..at + 2].copy_from_slice(&(value as u16).to_le_bytes());
-    };
-    let length = 65_535;
-    number(bytes, 13, length);
-    number(bytes, 16, 29 + length);
-    number(bytes, 18, 0);
-    number(bytes, 21, 29 + length);
-    number(bytes, 23, bytes.len() - 28);
-}
-
 /// Moves a byte of text from one record to the next, so that the sum stays.
 fn swap_lengths(random: &mut Random, bytes: &mut [u8]) {
-    if bytes.len() < 35 {
+    let first = first_body(bytes) + 6;
+    if bytes.len() < first + 4 {
         return;
     }
-    let at = 31 + 3 * random.below((bytes.len() - 32) / 3);
+    let at = first + 3 * random.below((bytes.len() - first - 1) / 3);
     if at + 3 < bytes.len() {
         bytes[at] = bytes[at].wrapping_add(1);
         bytes[at + 3] = bytes[at + 3].wrapping_sub(1);
@@ -195,6 +161,9 @@ pub fn damaged(random: &mut Random) -> Vec<u8> {
         } else {
             spoil(random, &mut file);
         }
+    }
+    if of_bytes && random.once_in(4) {
+        return with_contents(&other_bodies(random, &file));
     }
     let mut bytes = file.bytes();
     if of_bytes {
@@ -238,5 +207,5 @@ fn too_many_evolutions(random: &mut Random) -> Vec<u8> {
 fn too_many_states() -> Vec<u8> {
     let state = |word| State { word, rest: "1".to_string() };
     let states = (0..=STATES as u16).map(state).collect();
-    File { inputs: 1, outputs: 16, initial: 0, states, evolutions: Vec::new() }.bytes()
+    File { states, ..File::new(1, 16, &[], &[]) }.bytes()
 }

@@ -1,10 +1,11 @@
 //! Specification files: sound ones, random ones, and the largest.
 
+use super::never::never_text;
 use super::tables::{sizes, Regions};
-use super::texts::{dressed, nested, random_condition, sum_of_products, Product, TEXT};
+use super::texts::{dressed, nested, random_condition, sum_of_products, Product};
 use super::Random;
 use crate::file::{File, Leaving, State};
-use crate::plain::{EVOLUTIONS, INPUTS, OUTPUTS, STATES};
+use crate::plain::{EVOLUTIONS, INPUTS, OUTPUTS, STATES, TEXT};
 
 /// Different words in a random order, or now and then any words.
 fn words(random: &mut Random, states: usize, outputs: usize) -> Vec<u16> {
@@ -48,6 +49,7 @@ pub fn file_of_regions(
         initial: initial as u8,
         states,
         evolutions,
+        never: None,
     }
 }
 
@@ -65,7 +67,8 @@ fn reached_regions(random: &mut Random, initial: usize, inputs: usize, states: u
 }
 
 /// A file whose rules settle: exactly one holds at each couple, and no couple is transient. It may
-/// have words that agree, states that are never reached, or no start; rarely it has a transient.
+/// have words that agree, states that are never reached, or no start; rarely it has a transient. Half
+/// of the files rule settings out.
 pub fn settled_file(random: &mut Random) -> File {
     let (inputs, states) = sizes(random);
     let initial = random.below(states);
@@ -88,6 +91,9 @@ pub fn settled_file(random: &mut Random) -> File {
     }
     if random.once_in(6) {
         add_idle_evolution(random, &mut file);
+    }
+    if random.once_in(2) {
+        file.never = Some(never_text(random, &file));
     }
     file
 }
@@ -115,7 +121,8 @@ pub fn random_file(random: &mut Random) -> File {
         condition: random_condition(random, inputs),
     };
     let evolutions = (0..random.below(5)).map(|_| leaving(random)).collect();
-    File { inputs: inputs as u8, outputs: outputs as u8, initial: 0, states, evolutions }
+    let never = random.once_in(3).then(|| random_condition(random, inputs));
+    File { inputs: inputs as u8, outputs: outputs as u8, initial: 0, states, evolutions, never }
 }
 
 /// Any bytes, now and then after a right beginning.
@@ -123,7 +130,8 @@ pub fn random_bytes(random: &mut Random) -> Vec<u8> {
     let length = random.between(0, 80);
     let mut bytes: Vec<u8> = (0..length).map(|_| random.bits() as u8).collect();
     if random.once_in(2) && bytes.len() >= 5 {
-        bytes[..5].copy_from_slice(b"SEQ1\x04");
+        bytes[..4].copy_from_slice(b"SEQ1");
+        bytes[4] = random.between(3, 6) as u8;
     }
     bytes
 }
@@ -172,7 +180,7 @@ pub fn largest_file(bytes: usize) -> File {
 /// Pads every condition about evenly, then the first ones up to the whole size.
 fn spread_padding(file: &mut File, bytes: usize) {
     let missing = bytes.saturating_sub(file.bytes().len());
-    let records = file.conditions().count();
+    let records = file.conditions_mut().count();
     for text in file.conditions_mut() {
         let share = (missing / records / 2).min((TEXT - text.len()) / 2);
         text.push_str(&"+0".repeat(share));

@@ -1,5 +1,6 @@
 //! Tables of moves: settled ones, arbitrary ones, and the one with the longest runs.
 
+use super::never::any_set;
 use super::texts::Product;
 use super::Random;
 use crate::plain::{INPUTS, STATES};
@@ -151,7 +152,8 @@ fn settle(moves: &mut [u8], settings: usize) {
     }
 }
 
-/// Some table: mostly sound, some with transients, some with states beyond the last.
+/// Some table: mostly sound, some with transients, some with states beyond the last; any settings
+/// may be ruled out.
 pub fn any_table(random: &mut Random) -> Table {
     let (inputs, states) = sizes(random);
     let mut moves = match random.below(8) {
@@ -170,7 +172,8 @@ pub fn any_table(random: &mut Random) -> Table {
         2 => *moves.last_mut().expect("a table has couples") = states as u8,
         _ => {}
     }
-    Table { frame: Frame { inputs, states, initial: random.below(states) }, moves }
+    let (initial, never) = (random.below(states), any_set(random, 1 << inputs));
+    Table { frame: Frame { inputs, states, initial, never }, moves }
 }
 
 /// Inputs changed one after the other along a path of settings of 8 inputs no two of which differ in
@@ -199,5 +202,5 @@ pub fn longest_table() -> Table {
             moves[state * settings + setting] = state as u8 + 1;
         }
     }
-    Table { frame: Frame { inputs: INPUTS, states: STATES, initial: 0 }, moves }
+    Table { frame: Frame { inputs: INPUTS, states: STATES, ..Frame::default() }, moves }
 }

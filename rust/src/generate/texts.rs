@@ -1,10 +1,7 @@
 //! Conditions as texts: sums of products, in many dresses, and random ones.
 
 use super::Random;
-use crate::plain::PARENTHESES;
-
-/// Longest text of a record.
-pub const TEXT: usize = 255;
+use crate::plain::{PARENTHESES, TEXT};
 
 /// A product: the inputs it names, and those of them that are on.
 #[derive(Clone, Copy, Debug, PartialEq, Eq)]
@@ -170,6 +167,14 @@ pub fn dressed(products: &[Product], random: &mut Random) -> String {
 /// The text in that many parentheses.
 pub fn nested(text: &str, parentheses: usize) -> String {
     "(".repeat(parentheses) + text + &")".repeat(parentheses)
+}
+
+/// The text lengthened to that many bytes and saying the same; one byte less if only one is missing.
+pub fn padded(mut text: String, bytes: usize) -> String {
+    while text.len() + 2 <= bytes {
+        text.push_str(if text.len() + 3 == bytes { "+!1" } else { "+0" });
+    }
+    text
 }
 
 fn random_tree(random: &mut Random, inputs: usize, height: usize) -> Tree {

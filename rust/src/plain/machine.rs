@@ -1,6 +1,6 @@
 //! A table lent to a job: its moves, and the checks that every table job asks.
 
-use super::{check_lengths, refuse_at, INPUTS, STATES};
+use super::{check_lengths, refuse_at, INPUTS, STATES, WORD_BITS};
 use crate::{Answer, Frame};
 
 /// A frame within its ranges, and the move of each couple.
@@ -21,6 +21,11 @@ impl Frame {
     /// Number of couples, of a frame within its ranges.
     pub fn couples(&self) -> usize {
         self.states << self.inputs
+    }
+
+    /// Whether a setting is never used.
+    pub fn rules_out(&self, setting: usize) -> bool {
+        self.never[setting / WORD_BITS] >> (setting % WORD_BITS) & 1 == 1
     }
 }
 
@@ -84,7 +89,7 @@ impl<'a> Machine<'a> {
 
     /// Whether a run may start at a setting.
     pub fn starts(&self, setting: usize) -> bool {
-        self.rests(self.couple(self.frame.initial, setting))
+        !self.frame.rules_out(setting) && self.rests(self.couple(self.frame.initial, setting))
     }
 
     /// Check 4: every move is a state.

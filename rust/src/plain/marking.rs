@@ -47,8 +47,9 @@ impl<'a> Marked<'a> {
         }
         let mut next = 0;
         while let Some(&parent) = queue.get(next) {
-            for input in 0..machine.frame.inputs {
-                let visited = parent ^ 1 << input;
+            let changed = (0..machine.frame.inputs).map(|input| parent ^ 1 << input);
+            let rules_out = |&couple: &usize| machine.frame.rules_out(machine.setting(couple));
+            for visited in changed.filter(|couple| !rules_out(couple)) {
                 self.visit(parent, visited, &mut queue);
                 if !machine.rests(visited) {
                     self.visit(parent, machine.moved(visited), &mut queue);

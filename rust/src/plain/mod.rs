@@ -1,9 +1,10 @@
-//! The jobs of document 01 in plain Rust, written from the document alone.
+//! The jobs of documents 01 and 02 in plain Rust, written from the documents alone.
 //!
 //! Each function has the signature of the library's wrapper of the same name and leaves the same in
 //! every lent buffer, after refusals too.
 
 mod condition;
+mod contents;
 mod evolution;
 mod log;
 mod machine;
@@ -38,6 +39,12 @@ pub const COUPLES: usize = STATES << INPUTS;
 pub const FILE: usize = 65_535;
 /// Most parentheses open at any place of a condition.
 pub const PARENTHESES: usize = 8;
+/// Longest condition.
+pub const TEXT: usize = 255;
+/// Words of a set of settings, one bit a setting.
+pub const WORDS: usize = (1 << INPUTS) / WORD_BITS;
+/// Bits of a word of a set.
+pub const WORD_BITS: usize = u64::BITS as usize;
 /// Most settings of a run handed in.
 pub const SETTINGS_OF_A_RUN: usize = 65_535;
 /// Most entries that the log keeps.

@@ -48,11 +48,13 @@ fn first_fault(machine: &Machine, run: &[u8]) -> Option<usize> {
     }
     (0..run.len()).find(|&index| {
         let setting = usize::from(run[index]);
-        let follows = match index.checked_sub(1) {
-            None => setting < machine.settings() && machine.starts(setting),
-            Some(before) => (run[before] ^ run[index]).count_ones() == 1,
-        };
-        setting >= machine.settings() || !follows
+        if setting >= machine.settings() || machine.frame.rules_out(setting) {
+            return true;
+        }
+        match index.checked_sub(1) {
+            None => !machine.starts(setting),
+            Some(before) => (run[before] ^ run[index]).count_ones() != 1,
+        }
     })
 }
 

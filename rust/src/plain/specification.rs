@@ -1,17 +1,12 @@
 //! Reading a specification file: checks 1 to 13, its table, words and records.
 
 use super::condition::holds;
+use super::contents::{Bodies, RECORD_BYTES};
 use super::machine::Machine;
-use super::{check_lengths, refuse_at, EVOLUTIONS, FILE, NO_MOVE, NO_WORD, OUTPUTS, STATES};
+use super::{check_lengths, refuse_at};
+use super::{EVOLUTIONS, NO_MOVE, NO_WORD, OUTPUTS, STATES, TEXT, WORDS, WORD_BITS};
 use crate::{Answer, Contents, Evolution, Frame};
 use std::ops::Range;
-
-const MARK: &[u8] = b"SEQ1";
-const BODIES: usize = 4;
-const ENTRY_BYTES: usize = 5;
-const FIRST_BODY: usize = MARK.len() + 1 + BODIES * ENTRY_BYTES;
-const SIZES_BYTES: usize = 4;
-const RECORD_BYTES: usize = 3;
 
 /// Reads a specification file into a table, the states' output words and the evolutions' records.
 pub fn read(
@@ -28,72 +23,47 @@ pub fn read(
     let table = &mut table[..layout.frame.couples()];
     let words = &mut words[..layout.frame.states];
     let records = &mut records[..layout.evolutions];
-    if let Err(answer) = layout.fill(table, words, records) {
-        table.fill(NO_MOVE);
-        words.fill(NO_WORD);
-        records.fill(Evolution::default());
-        return refused(answer);
+    match layout.fill(table, words, records) {
+        Ok(frame) => {
+            let Layout { outputs, evolutions, .. } = layout;
+            Contents { answer: Answer::done(0), outputs, evolutions, frame }
+        }
+        Err(answer) => {
+            table.fill(NO_MOVE);
+            words.fill(NO_WORD);
+            records.fill(Evolution::default());
+            refused(answer)
+        }
     }
-    let Layout { outputs, evolutions, frame, .. } = layout;
-    Contents { answer: Answer::done(0), outputs, evolutions, frame }
 }
 
 fn refused(answer: Answer) -> Contents {
     Contents { answer, ..Contents::default() }
 }
 
-/// Two bytes, low byte first.
-fn number_at(bytes: &[u8], at: usize) -> usize {
-    usize::from(u16::from_le_bytes([bytes[at], bytes[at + 1]]))
-}
-
-/// Check 1: the places of the four bodies, or nothing if the contents are wrong.
-fn bodies(file: &[u8]) -> Option<[Range<usize>; BODIES]> {
-    let size_fits = (FIRST_BODY..=FILE).contains(&file.len());
-    if !size_fits || !file.starts_with(MARK) || usize::from(file[MARK.len()]) != BODIES {
-        return None;
-    }
-    let mut bodies = [const { 0..0 }; BODIES];
-    let mut end = FIRST_BODY;
-    for (body, place) in bodies.iter_mut().enumerate() {
-        let entry = MARK.len() + 1 + body * ENTRY_BYTES;
-        let (offset, length) = (number_at(file, entry + 1), number_at(file, entry + 3));
-        if usize::from(file[entry]) != body + 1 || offset != end {
-            return None;
-        }
-        end += length;
-        *place = offset..end;
-    }
-    let multiples = bodies[1].len() % RECORD_BYTES == 0 && bodies[2].len() % RECORD_BYTES == 0;
-    (end == file.len() && bodies[0].len() == SIZES_BYTES && multiples).then_some(bodies)
-}
-
-/// A file that passes checks 1 to 3: its sizes, and where its bodies begin.
+/// A file that passes checks 1 to 3: its sizes, with no setting ruled out, and its bodies.
 struct Layout<'a> {
     file: &'a [u8],
     frame: Frame,
     outputs: usize,
     evolutions: usize,
-    state_records: usize,
-    evolution_records: usize,
-    texts: usize,
+    bodies: Bodies,
 }
 
 impl<'a> Layout<'a> {
     /// Checks 1 to 3; the lengths are those of table, words and records.
     fn of(file: &'a [u8], lengths: (usize, usize, usize)) -> Result<Self, Answer> {
-        let [sizes, states, evolutions, texts] = bodies(file).ok_or(Answer::refused(1, 0))?;
-        let size = |index: usize| usize::from(file[sizes.start + index]);
+        let bodies = Bodies::of(file).ok_or(Answer::refused(1, 0))?;
+        let size = |index: usize| usize::from(file[bodies.sizes.start + index]);
+        let (inputs, states, initial) = (size(0), size(2), size(3));
         let layout = Layout {
             file,
-            frame: Frame { inputs: size(0), states: size(2), initial: size(3) },
+            frame: Frame { inputs, states, initial, never: [0; WORDS] },
             outputs: size(1),
-            evolutions: evolutions.len() / RECORD_BYTES,
-            state_records: states.start,
-            evolution_records: evolutions.start,
-            texts: texts.start,
+            evolutions: bodies.evolutions.len() / RECORD_BYTES,
+            bodies,
         };
-        if !layout.sizes_agree(states.len() / RECORD_BYTES, texts.len()) {
+        if !layout.sizes_agree() {
             return Err(Answer::refused(2, 0));
         }
         check_lengths(&[
@@ -105,12 +75,15 @@ impl<'a> Layout<'a> {
     }
 
     /// Check 2.
-    fn sizes_agree(&self, state_records: usize, texts: usize) -> bool {
+    fn sizes_agree(&self) -> bool {
+        let Bodies { states, texts, never, .. } = &self.bodies;
+        let text_lengths = (0..self.records()).map(|record| self.text_length(record));
         self.frame.fits()
             && (1..=OUTPUTS).contains(&self.outputs)
-            && state_records == self.frame.states
+            && states.len() == RECORD_BYTES * self.frame.states
             && self.evolutions <= EVOLUTIONS
-            && (0..self.records()).map(|record| self.text_length(record)).sum::<usize>() == texts
+            && text_lengths.sum::<usize>() == texts.len()
+            && never.iter().all(|text| text.len() <= TEXT)
     }
 
     /// Number of records, states first.
@@ -121,9 +94,9 @@ impl<'a> Layout<'a> {
     /// The three bytes of a record.
     fn record(&self, record: usize) -> &'a [u8] {
         let start = if record < self.frame.states {
-            self.state_records + RECORD_BYTES * record
+            self.bodies.states.start + RECORD_BYTES * record
         } else {
-            self.evolution_records + RECORD_BYTES * (record - self.frame.states)
+            self.bodies.evolutions.start + RECORD_BYTES * (record - self.frame.states)
         };
         &self.file[start..start + RECORD_BYTES]
     }
@@ -135,7 +108,7 @@ impl<'a> Layout<'a> {
 
     /// Where each record's condition stands in the file.
     fn text_places(&self) -> Vec<Range<usize>> {
-        let mut end = self.texts;
+        let mut end = self.bodies.texts.start;
         let place = |record| {
             let start = end;
             end += self.text_length(record);
@@ -144,24 +117,39 @@ impl<'a> Layout<'a> {
         (0..self.records()).map(place).collect()
     }
 
-    /// Checks 4 to 13; the buffers have exactly the needed lengths and are filled on the way.
+    /// Checks 4 to 13; the buffers have exactly the needed lengths and are filled on the way. The
+    /// frame is the file's, with the settings never used.
     fn fill(
         &self,
         table: &mut [u8],
         words: &mut [u16],
         records: &mut [Evolution],
-    ) -> Result<(), Answer> {
+    ) -> Result<Frame, Answer> {
         let texts = self.text_places();
         self.copy_records(&texts, words, records);
         self.check_records(words, records)?;
-        refuse_at(5, texts.iter().position(|text| self.holds(text, 0).is_none()))?;
+        let mut conditions = texts.iter().chain(&self.bodies.never);
+        refuse_at(5, conditions.position(|text| self.holds(text, 0).is_none()))?;
         self.check_evolutions(records)?;
         self.fill_table(&texts, records, table)?;
-        let machine = Machine { frame: self.frame, moves: table };
+        let machine = Machine { frame: self.used_frame(), moves: table };
         machine.check_transients()?;
         refuse_at(11, (0..words.len()).find(|&state| words[..state].contains(&words[state])))?;
         refuse_at(12, first_unreached(&machine))?;
-        machine.check_start()
+        machine.check_start()?;
+        Ok(machine.frame)
+    }
+
+    /// The frame with the settings at which kind 5 holds ruled out.
+    fn used_frame(&self) -> Frame {
+        let mut frame = self.frame;
+        if let Some(text) = &self.bodies.never {
+            for setting in 0..1 << frame.inputs {
+                let holds = self.holds(text, setting) == Some(true);
+                frame.never[setting / WORD_BITS] |= u64::from(holds) << (setting % WORD_BITS);
+            }
+        }
+        frame
     }
 
     fn copy_records(&self, texts: &[Range<usize>], words: &mut [u16], records: &mut [Evolution]) {

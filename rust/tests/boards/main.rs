@@ -1,6 +1,7 @@
 //! Demand 3: marks and ranks are those of all runs, the plan visits the marked couples and no other,
 //! and a board passes all readings of the plan exactly if its moves are right at every marked couple.
-//! Runs, visits and boards are followed here step by step, apart from both implementations.
+//! Runs, visits and boards are followed here step by step, apart from both implementations; any
+//! settings may be ruled out.
 
 #[path = "../cases/mod.rs"]
 mod cases;
@@ -13,7 +14,7 @@ use mundrefol::generate::{any_table, longest_table, Random, Table};
 use mundrefol::plain::UNMARKED;
 use mundrefol::Frame;
 use std::collections::BTreeSet;
-use steps::{has_start, is_run, is_sound, ranks_by_rounds, starts, visits};
+use steps::{has_start, is_run, is_sound, is_used, ranks_by_rounds, starts, visits};
 
 /// Every list of `length` numbers below `limit`.
 fn all_lists(limit: usize, length: usize) -> impl Iterator<Item = Vec<u8>> {
@@ -27,14 +28,29 @@ fn all_lists(limit: usize, length: usize) -> impl Iterator<Item = Vec<u8>> {
     })
 }
 
-/// Every sound table with a start of these sizes, from every initial state.
-fn all_tables(inputs: usize, states: usize) -> Vec<Table> {
-    let tables = all_lists(states, states << inputs).flat_map(|moves| {
-        let table =
-            move |initial| Table { frame: Frame { inputs, states, initial }, moves: moves.clone() };
-        (0..states).map(table)
+/// Every sound table of these sizes, from every initial state.
+fn sound_tables(inputs: usize, states: usize) -> impl Iterator<Item = Table> {
+    let tables = all_lists(states, states << inputs).flat_map(move |moves| {
+        let frame = move |initial| Frame { inputs, states, initial, ..Frame::default() };
+        (0..states).map(move |initial| Table { frame: frame(initial), moves: moves.clone() })
     });
-    tables.filter(|table| is_sound(table) && has_start(table)).collect()
+    tables.filter(is_sound)
+}
+
+/// A table with one of the sets of its settings ruled out.
+fn with_never(table: &Table, set: u64) -> Table {
+    let mut table = table.clone();
+    table.frame.never[0] = set;
+    table
+}
+
+/// Every sound table with a start of these sizes, from every initial state, with every set of
+/// settings ruled out.
+fn all_tables(inputs: usize, states: usize) -> impl Iterator<Item = Table> {
+    let sets = 1 << (1 << inputs);
+    let tables = sound_tables(inputs, states)
+        .flat_map(move |table| (0..sets).map(move |set| with_never(&table, set)));
+    tables.filter(has_start)
 }
 
 /// Tries every board on the given tables of these sizes.
@@ -66,9 +82,14 @@ fn all_boards_of_one_input_three_states() {
     try_all_boards(all_tables(1, 3));
 }
 
-/// Every `step`th table of these sizes.
+/// Every `step`th table of these sizes, with every setting used and with some ruled out.
 fn some_tables(inputs: usize, states: usize, step: usize) -> impl Iterator<Item = Table> {
-    all_tables(inputs, states).into_iter().skip(step / 2).step_by(step)
+    let tables = sound_tables(inputs, states).skip(step / 2).step_by(step).zip(1..);
+    let with_sets = |(table, turn): (Table, u64)| {
+        let some = turn * 37 % (1 << (1 << table.frame.inputs));
+        [with_never(&table, 0), with_never(&table, some)]
+    };
+    tables.flat_map(with_sets).filter(has_start)
 }
 
 #[test]
@@ -175,6 +196,7 @@ fn all_runs(table: &Table, changes: usize) -> Vec<Vec<usize>> {
         let longer = |run: &Vec<usize>| {
             let last = run[run.len() - 1];
             let next = (0..table.frame.inputs).map(move |input| last ^ 1 << input);
+            let next = next.filter(|&setting| is_used(table, setting));
             let run = run.clone();
             next.map(move |setting| [run.as_slice(), &[setting]].concat()).collect::<Vec<_>>()
         };

@@ -18,10 +18,18 @@ pub fn is_sound(table: &Table) -> bool {
     })
 }
 
+/// Whether a setting may be used: the bits of `never` are counted from the lowest of the first word on.
+pub fn is_used(table: &Table, setting: usize) -> bool {
+    let mut bits =
+        table.frame.never.iter().flat_map(|word| (0..64).map(move |bit| word & 1 << bit));
+    bits.nth(setting) == Some(0)
+}
+
 pub fn starts(table: &Table) -> Vec<usize> {
     let rests =
         |&setting: &usize| follow(table, table.frame.initial, setting) == table.frame.initial;
-    (0..1 << table.frame.inputs).filter(rests).collect()
+    let used = |&setting: &usize| is_used(table, setting);
+    (0..1 << table.frame.inputs).filter(rests).filter(used).collect()
 }
 
 pub fn has_start(table: &Table) -> bool {
@@ -35,7 +43,7 @@ fn differ_in_one(left: usize, right: usize) -> bool {
 /// Whether the settings are a run of the table.
 pub fn is_run(table: &Table, run: &[usize]) -> bool {
     run.first().is_some_and(|start| starts(table).contains(start))
-        && run.iter().all(|&setting| setting < 1 << table.frame.inputs)
+        && run.iter().all(|&setting| setting < 1 << table.frame.inputs && is_used(table, setting))
         && run.windows(2).all(|pair| differ_in_one(pair[0], pair[1]))
 }
 
@@ -72,6 +80,7 @@ pub fn readings(board: &Table, words: &[u16], run: &[usize]) -> Vec<u16> {
 /// Ranks by plain rounds: each round looks at every couple and every change.
 pub fn ranks_by_rounds(table: &Table) -> Vec<u16> {
     let settings = 1 << table.frame.inputs;
+    let used: Vec<usize> = (0..settings).filter(|&setting| is_used(table, setting)).collect();
     let mut ranks = vec![UNMARKED; table.moves.len()];
     for start in starts(table) {
         ranks[table.frame.initial * settings + start] = 0;
@@ -83,7 +92,7 @@ pub fn ranks_by_rounds(table: &Table) -> Vec<u16> {
             if ranks[couple] != round || follow(table, state, setting) != state {
                 continue;
             }
-            for changed in (0..settings).filter(|&changed| differ_in_one(setting, changed)) {
+            for &changed in used.iter().filter(|&&changed| differ_in_one(setting, changed)) {
                 for visited in [state, follow(table, state, changed)] {
                     let rank = &mut ranks[visited * settings + changed];
                     found |= *rank == UNMARKED;

@@ -1,8 +1,9 @@
-//! Seeded cases, counted by the number of their answers.
+//! Seeded cases, counted by their answers.
 
 use mundrefol::generate::Random;
 use std::collections::BTreeMap;
 use std::env;
+use std::fmt::Debug;
 use std::thread;
 
 /// Names the case when its check fails.
@@ -34,25 +35,25 @@ fn random_of(job: &str, seed: u64, case: usize) -> Random {
     Random::new(random.bits())
 }
 
-/// Runs the cases of a job. Each answers a number, and every one of `numbers` must be met.
-pub fn try_cases(
+/// Runs the cases of a job. Each answers one of `answers`, mostly a number, and every one must be met.
+pub fn try_cases<A: Ord + Debug>(
     job: &'static str,
     cases: usize,
-    numbers: &[usize],
-    try_case: impl Fn(&mut Random) -> usize,
+    answers: &[A],
+    try_case: impl Fn(&mut Random) -> A,
 ) {
     let seed = seed();
-    let mut met: BTreeMap<usize, usize> = BTreeMap::new();
+    let mut met: BTreeMap<A, usize> = BTreeMap::new();
     for case in 0..cases {
         let _running = Running { job, seed, case };
-        let number = try_case(&mut random_of(job, seed, case));
-        *met.entry(number).or_default() += 1;
+        let answer = try_case(&mut random_of(job, seed, case));
+        *met.entry(answer).or_default() += 1;
     }
-    println!("{job}: {cases} cases of seed {seed}, by number {met:?}");
-    for number in numbers {
-        assert!(met.contains_key(number), "{job}: number {number} was never met, seed {seed}");
+    println!("{job}: {cases} cases of seed {seed}, by answer {met:?}");
+    for answer in answers {
+        assert!(met.contains_key(answer), "{job}: {answer:?} was never met, seed {seed}");
     }
-    for number in met.keys() {
-        assert!(numbers.contains(number), "{job}: number {number} is not one of its answers");
+    for answer in met.keys() {
+        assert!(answers.contains(answer), "{job}: {answer:?} is not one of its answers");
     }
 }

@@ -2,7 +2,7 @@
 
 use mundrefol::generate::{any_table, Random, Table};
 use mundrefol::plain::{COUPLES, INPUTS, STATES};
-use mundrefol::Evolution;
+use mundrefol::{Evolution, Frame};
 
 /// A buffer's length around the needed one: mostly enough, sometimes short by one or more.
 pub fn length(random: &mut Random, needed: usize) -> usize {
@@ -72,15 +72,16 @@ pub fn lent_ranks(random: &mut Random, table: &Table) -> Vec<u16> {
 
 /// Settings that mostly are a run of the table, sometimes with a fault, rarely very many.
 pub fn lent_run(random: &mut Random, table: &Table) -> Vec<u8> {
-    let initial = table.frame.initial;
+    let Frame { initial, .. } = table.frame;
     let inputs = table.frame.inputs.clamp(1, INPUTS);
     let settings = 1 << inputs;
     let rests = |&setting: &usize| {
         let couple = initial.wrapping_mul(settings).wrapping_add(setting);
         table.moves.get(couple).is_some_and(|&state| usize::from(state) == initial)
     };
-    let starts: Vec<usize> = (0..settings).filter(rests).collect();
-    let mut setting = if starts.is_empty() { 0 } else { *random.pick(&starts) };
+    let careless = random.once_in(5);
+    let used = |&setting: &usize| careless || !table.frame.rules_out(setting);
+    let mut setting = pick_or_zero(random, (0..settings).filter(rests).filter(used));
     let count = match random.below(400) {
         0 => random.between(65_534, 65_537),
         1..=20 => 0,
@@ -89,12 +90,22 @@ pub fn lent_run(random: &mut Random, table: &Table) -> Vec<u8> {
     let mut run = Vec::with_capacity(count);
     for _ in 0..count {
         run.push(setting as u8);
-        setting ^= 1 << random.below(inputs);
+        setting = pick_or_zero(random, (0..inputs).map(|input| setting ^ 1 << input).filter(used));
     }
     if count > 0 && random.once_in(4) {
         spoil_run(random, &mut run, settings);
     }
     run
+}
+
+/// One of the settings, or 0 if there is none.
+fn pick_or_zero(random: &mut Random, settings: impl Iterator<Item = usize>) -> usize {
+    let settings: Vec<usize> = settings.collect();
+    if settings.is_empty() {
+        0
+    } else {
+        *random.pick(&settings)
+    }
 }
 
 /// Changes one setting of a run, one of the first.

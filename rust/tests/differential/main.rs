@@ -4,6 +4,7 @@
 #[path = "../cases/mod.rs"]
 mod cases;
 mod evolutions;
+mod kind_5;
 mod lent;
 mod log;
 mod read;

@@ -2,18 +2,20 @@
 
 use super::assert_same;
 use super::cases::{self, try_cases};
+use super::kind_5;
 use super::lent::{junk_bytes, junk_records, junk_words, length};
 use mundrefol::file::File;
-use mundrefol::generate::{damaged, largest_file};
+use mundrefol::generate::{damaged, largest_file, padded};
 use mundrefol::generate::{random_bytes, random_file, settled_file, Random};
-use mundrefol::plain;
-use mundrefol::plain::{COUPLES, EVOLUTIONS, FILE, INPUTS, STATES};
+use mundrefol::plain::{COUPLES, EVOLUTIONS, FILE, INPUTS, STATES, TEXT};
+use mundrefol::{plain, Answer};
 
-const READ: usize = 16_000;
+const READ: usize = 24_000;
 
+/// Every number is met by files without kind 5 and with it, 2, 5 and 13 also on account of it.
 #[test]
 fn read() {
-    try_cases("read", READ, &Vec::from_iter(0..=13), |random| {
+    try_cases("read", READ, &kind_5::answers(), |random| {
         let file = match random.below(12) {
             0 => random_bytes(random),
             1 => random_file(random).bytes(),
@@ -51,17 +53,24 @@ fn read_at_the_limits() {
         (largest(FILE), 0),
         (largest(FILE + 1), 1),
         (one_too_many.bytes(), 2),
+        (largest_file(FILE - 5 - TEXT).never(&padded("h".to_string(), TEXT)).bytes(), 0),
+        (largest_file(FILE - 5 - TEXT).never(&padded("!h".to_string(), TEXT + 1)).bytes(), 1),
+        (largest_file(FILE - 6 - TEXT).never(&padded("!h".to_string(), TEXT + 1)).bytes(), 2),
     ];
     for (file, number) in files {
         let mut random = Random::new(cases::seed());
-        assert_eq!(read_into(&mut random, &file, (COUPLES, STATES, EVOLUTIONS)), number);
+        assert_eq!(read_into(&mut random, &file, MOST).number, number);
     }
 }
 
+/// Lengths of table, words and records for every file.
+pub const MOST: (usize, usize, usize) = (COUPLES, STATES, EVOLUTIONS);
+
 /// Elements that a file's sizes seem to ask of table, words and records.
 fn asked_lengths(file: &[u8]) -> (usize, usize, usize) {
-    match file.get(25..28) {
-        Some(&[inputs, _, states]) => {
+    let first_body = 5 + 5 * file.get(4).map_or(0, |&count| usize::from(count));
+    match file.get(first_body..first_body + 3) {
+        Some(&[inputs, _, states]) if first_body >= 25 => {
             let states = usize::from(states).min(STATES);
             let evolutions = usize::from(u16::from_le_bytes([file[18], file[19]])) / 3;
             (states << usize::from(inputs).min(INPUTS), states, evolutions.min(EVOLUTIONS))
@@ -70,14 +79,16 @@ fn asked_lengths(file: &[u8]) -> (usize, usize, usize) {
     }
 }
 
-fn read_both(random: &mut Random, file: &[u8]) -> usize {
+fn read_both(random: &mut Random, file: &[u8]) -> (usize, &'static str) {
     let (couples, states, evolutions) = asked_lengths(file);
     let lengths = (length(random, couples), length(random, states), length(random, evolutions));
-    read_into(random, file, lengths)
+    let answer = read_into(random, file, lengths);
+    let mut without = |file: &[u8]| read_into(random, file, lengths);
+    (answer.number, kind_5::part(file, answer, &mut without))
 }
 
-/// Reads a file by both into buffers of these lengths; the answer's number.
-fn read_into(random: &mut Random, file: &[u8], lengths: (usize, usize, usize)) -> usize {
+/// Reads a file by both into buffers of these lengths.
+pub fn read_into(random: &mut Random, file: &[u8], lengths: (usize, usize, usize)) -> Answer {
     let mut table = junk_bytes(random, lengths.0);
     let mut words = junk_words(random, lengths.1);
     let mut records = junk_records(random, lengths.2);
@@ -89,5 +100,5 @@ fn read_into(random: &mut Random, file: &[u8], lengths: (usize, usize, usize)) -
     assert_same("table", &table, &plain_table);
     assert_same("words", &words, &plain_words);
     assert_same("records", &records, &plain_records);
-    contents.answer.number
+    contents.answer
 }

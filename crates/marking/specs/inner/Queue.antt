@@ -1,6 +1,7 @@
 -- What the private functions of marking ask of one another: the checks in parts, then marking by a queue.
 use mathlib.Core.Path.{_≡_}
 use mathlib.Core.Logic.{_⊎_}
+use mathlib.Core.Bool.{true}
 use mathlib.Core.List.{List, [], _∷_, _++_}
 use Prim.Native.Nat.{ℕ, suc, _+_, _*_, _/_, _%_, _^_, _≤_, _<_}
 use lib.ListN.{length, getD}
@@ -9,7 +10,7 @@ use Rattle.verdict.specs.Buffers.{Left}
 use Rattle.verdict.specs.declared.Answer.{Answer}
 use Rattle.machine.specs.Limits.{mostInputs, mostCouples, unmarked}
 use Rattle.machine.specs.inner.Flips.{flipped}
-use Rattle.machine.specs.Runs.{Machine, couples, RankOrUnmarked}
+use Rattle.machine.specs.Runs.{Machine, couples, Starts, RankOrUnmarked}
 use Rattle.machine.specs.Shortest.{ParentOrNone}
 use Rattle.machine.specs.inner.Rounds.{Level}
 use Rattle.tables.specs.Tables.{sizeChecks, moveChecks, startChecks}
@@ -72,17 +73,25 @@ pub record Pushed (By : ℕ → Type 0) (r p : ℕ) (R P Q : List ℕ) (tail : �
 abbrev pub ByChange : List ℕ → ℕ → ℕ → ℕ → ℕ → Type 0
 ByChange T z s w d = (d ≡ s * z + w) ⊎ (d ≡ getD T (s * z + w) 0 * z + w)
 
--- from couple p, a change of one of the first i inputs visits d
-abbrev pub ByInputs : List ℕ → ℕ → ℕ → ℕ → ℕ → Type 0
-ByInputs T z p i d = (j : ℕ) × (j < i) × ByChange T z (p / z) (flipped (p % z) (2 ^ j)) d
+-- from couple p, a change of input j, which a run may make, visits d
+abbrev pub ByInput : Machine → ℕ → ℕ → ℕ → ℕ → Type 0
+ByInput m z p j d = (m .mayChange (p % z) (flipped (p % z) (2 ^ j)) ≡ true) × ByChange (m .table) z (p / z) (flipped (p % z) (2 ^ j)) d
 
--- from couple p, at rest, a change of one of the n inputs visits d
-abbrev pub ByRest : List ℕ → ℕ → ℕ → ℕ → ℕ → Type 0
-ByRest T z n p d = (getD T p 0 ≡ p / z) × ByInputs T z p n d
+-- a change of one of the first i inputs does
+abbrev pub ByInputs : Machine → ℕ → ℕ → ℕ → ℕ → Type 0
+ByInputs m z p i d = (j : ℕ) × (j < i) × ByInput m z p j d
 
--- d is the couple of the initial state i and one of the first v settings, at rest
-abbrev pub ByStart : List ℕ → ℕ → ℕ → ℕ → ℕ → Type 0
-ByStart T z i v d = (u : ℕ) × (u < v) × ((getD T (i * z + u) 0 ≡ i) × (d ≡ i * z + u))
+-- from couple p, at rest, a change of one input visits d
+abbrev pub ByRest : Machine → ℕ → ℕ → ℕ → Type 0
+ByRest m z p d = (getD (m .table) p 0 ≡ p / z) × ByInputs m z p (m .inputs) d
+
+-- d is the couple of the initial state and setting u, a start
+abbrev pub ByStart : Machine → ℕ → ℕ → ℕ → Type 0
+ByStart m z u d = Starts m u × (d ≡ m .initial * z + u)
+
+-- d is that of a start among the first v settings
+abbrev pub ByStarts : Machine → ℕ → ℕ → ℕ → Type 0
+ByStarts m z v d = (u : ℕ) × (u < v) × ByStart m z u d
 
 -- At couple c, after the couples of which S holds, each of rank k, were expanded: it had a rank, or got one and the least of them
 -- that leads to it as parent, or is left without.

@@ -3,7 +3,7 @@ use borrow.Author.Needs.{needs}
 use native.Mathlib.Omega.{arith}
 use mathlib.Core.Path.{_∙_}
 use Rattle.machine.proofs.Couples.{moves}
-use Rattle.runs.proofs.Indices.{couple-inside, couple-move}
+use Rattle.tables.proofs.Gate.{couple-inside, couple-move}
 use Rattle.readings.proofs.move_at.Statement.{statement}
 use Rattle.readings.proofs.move_at.Tie as tie
 

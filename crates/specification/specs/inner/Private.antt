@@ -2,28 +2,35 @@
 use mathlib.Core.Path.{_≡_}
 use mathlib.Core.Bool.{true, false}
 use mathlib.Core.List.{List, _∷_, _++_}
-use Prim.Native.Nat.{ℕ, _+_, _≤_, _<_}
+use Prim.Native.Nat.{ℕ, _+_, _-_, _≤_, _<_}
 use lib.ListN.{length, getD}
 use Rattle.verdict.specs.Checks.{Check, check, Judged, Passed}
 use Rattle.verdict.specs.Buffers.{Left}
 use Rattle.verdict.specs.declared.Answer.{Answer}
-use Rattle.machine.specs.Limits.{mostStates}
 use Rattle.machine.specs.Couples.{Couple}
 use Rattle.machine.specs.Moves.{tableMoves, Stateless, Transient}
 use Rattle.machine.specs.Runs.{Machine, size}
 use Rattle.tables.specs.Tables.{stateChecks}
-use Rattle.specification.specs.Limits.{mostEvolutions, mostBytes, blankMove, blankWord}
-use Rattle.specification.specs.Records.{sumTo, word, settings, couples, records, recordAt, textLength, sizesOf, Ranges, Beyond, Own, Twice}
-use Rattle.specification.specs.Rules.{textsAt, textAt, ruleOf, Fires, MoveAt}
-use Rattle.specification.specs.Reading.{recordChecks, ruleChecks, moveChecks, refusalOf, contentsOf, ReadHere}
+use Rattle.specification.specs.Limits.{mostBytes, blankMove, blankWord}
+use Rattle.specification.specs.File.{countOf, lengthOf, startOf, kinds, neverKind, WellFormed}
+use Rattle.specification.specs.Records.{word, settings, couples, records, recordAt, sizesOf, Ranges, Beyond, Own, Twice}
+use Rattle.specification.specs.Rules.{textAt, ruleOf, Fires, MoveAt}
+use Rattle.specification.specs.Reading.{recordChecks, ruleChecks, moveChecks, refusalOf, ContentsOf, ReadHere}
+use Rattle.specification.specs.declared.file.Bodies.{Bodies}
 use Rattle.specification.specs.declared.records.Sizes.{Sizes}
 use Rattle.specification.specs.declared.records.RecordCheck.{RecordCheck}
 use Rattle.specification.specs.declared.records.RecordCheck as RecordCheck
 use Rattle.specification.specs.declared.reading.Core.{Core}
 
--- so many records at most: states, then evolutions
-abbrev pub mostRecords : ℕ
-mostRecords = mostStates + mostEvolutions
+-- so many entries at most: their kinds rise from 1 to 5
+abbrev pub mostKinds : ℕ
+mostKinds = neverKind
+
+-- the bodies as they are decoded: how many entries there are, where the body of each begins, and how long it is
+pub record Decoded (file : List ℕ) (b : Bodies) : Type 0 where
+  pub count : b .count ≡ countOf file
+  pub at : (k : ℕ) → k < countOf file → getD (b .at) k 0 ≡ startOf file k
+  pub long : (k : ℕ) → k < countOf file → getD (b .length) k 0 ≡ lengthOf file k
 
 -- the checks of single records: refusals 4, 6 and 7 at record r
 abbrev pub Wrong : List ℕ → Sizes → RecordCheck → ℕ → Type 0
@@ -31,16 +38,20 @@ Wrong file z RecordCheck.the-variants.Beyond r = Beyond file z r
 Wrong file z RecordCheck.the-variants.Own r = Own file z r
 Wrong file z RecordCheck.the-variants.Twice r = Twice file z r
 
--- what a file that passes 1 and 2 has
+-- what a file that passes 1 and 2 has: a body beyond kind 4 stands where the texts end
 pub record Laid (file : List ℕ) (z : Sizes) : Type 0 where
+  pub formed : WellFormed file
   pub ranges : Ranges z
-  pub texts : textsAt z + sumTo (textLength file z) (records z) ≡ length file
+  pub counted : z .more ≡ countOf file - kinds
+  pub ends : textAt file z (records z) ≡ startOf file kinds
+  pub texts : textAt file z (records z) ≤ length file
   pub few : length file ≤ mostBytes
 
--- and where each text begins
+-- and where each text begins, and the last one ends
 pub record Placed (file : List ℕ) (z : Sizes) (starts : List ℕ) : Type 0 where
   pub laid : Laid file z
-  pub at : (r : ℕ) → r < records z → getD starts r 0 ≡ textAt file z r
+  pub at : (r : ℕ) → r ≤ records z → getD starts r 0 ≡ textAt file z r
+  pub end : getD starts (records z + 1) 0 ≡ length file
 
 -- n is the next rule, after record r, of the state that r is a rule of; the number of records where there is none
 pub record Follows (file : List ℕ) (z : Sizes) (r n : ℕ) : Type 0 where
@@ -77,7 +88,7 @@ pub record SoundAs (file : List ℕ) (z : Sizes) (table₀ words₀ : List ℕ) 
 pub record OutcomeAs (file : List ℕ) (z : Sizes) (a : Answer) (r : Core) : Type 0 where
   pub answer : r .contents .answer ≡ a
   pub refused : (a .number ≡ 0 → ⊥) → (r .contents ≡ refusalOf a) × (r .good ≡ false)
-  pub done : a .number ≡ 0 → (r .contents ≡ contentsOf a z) × (r .good ≡ true)
+  pub done : a .number ≡ 0 → ContentsOf file z (r .contents) × (r .good ≡ true)
   pub from : r .from ≡ recordAt z (z .states)
   pub text : r .text ≡ textAt file z (z .states)
   pub count : r .count ≡ z .evolutions

@@ -36,7 +36,7 @@ check-states-requires : tie.Need-check-states-requires
 check-states-requires c κs =
     let t = size-told (machineOf (c .before .before .before .before .before .before .before .before .before .before .before .args .frame) (c .before .before .before .before .before .before .before .before .before .before .before .args .table .now)) (c .before .before .before .before .before .before .before .before .check-sizes .ensures) (c .before .before .before .before .before .before .if1 .left) in
     let f = c .before .before .before .settings .ensures .0 .0 in
-    (fits (t .sized) f (c .before .before .before .before .before .before .before .before .before .before .before .args .table .now) (reaches t f) (c .before .before .check-moves .ensures) (c .if3 .left), c .before .before .before .before .if2 .left, settings-are (t .sized) f)
+    (t, fits (t .sized) f (c .before .before .before .before .before .before .before .before .before .before .before .args .table .now) (reaches t f) (c .before .before .check-moves .ensures) (c .if3 .left), c .before .before .before .before .if2 .left, settings-are (t .sized) f)
 
 returns-4 : tie.Need-returns-4
 returns-4 c =

@@ -21,19 +21,19 @@ returns c = halt (at-least (c .before .before .before .first-same .ensures) (c .
 returns-2 : tie.Need-returns-2
 returns-2 c =
     pass (found-none (c .before .before .before .before .before .before .first-same .ensures) (c .before .before .before .before .enum-told .given .1))
-    (halt (at-least (reached (c .before .before .before .before .before .before .before .before .before .args .table .now) (c .before .before .before .before .before .before .before .before .before .args .frame .states) (c .before .before .before .before .before .before .before .before .before .args .frame .initial) (c .before .before .before .before .before .before .before .before .before .pre .2) (c .before .before .before .first-unreached .ensures)) (c .before .s2 .given .1)))
+    (halt (at-least (reached (c .before .before .before .before .before .before .before .before .before .args .table .now) (c .before .before .before .before .before .before .before .before .before .args .frame .states) (c .before .before .before .before .before .before .before .before .before .args .frame .initial) (c .before .before .before .before .before .before .before .before .before .pre .3) (c .before .before .before .first-unreached .ensures)) (c .before .s2 .given .1)))
 
 returns-3 : tie.Need-returns-3
 returns-3 c =
     pass (found-none (c .before .before .before .before .before .before .before .first-same .ensures) (c .before .before .before .before .before .enum-told .given .1))
-    (pass (found-none (reached (c .before .before .before .before .before .before .before .before .before .before .args .table .now) (c .before .before .before .before .before .before .before .before .before .before .args .frame .states) (c .before .before .before .before .before .before .before .before .before .before .args .frame .initial) (c .before .before .before .before .before .before .before .before .before .before .pre .2) (c .before .before .before .before .first-unreached .ensures)) (c .before .before .enum-told2 .given .1))
-    (halt (whole (c .before .has-start .ensures .fails (not-true _ (c .if1 .taken))))))
+    (pass (found-none (reached (c .before .before .before .before .before .before .before .before .before .before .args .table .now) (c .before .before .before .before .before .before .before .before .before .before .args .frame .states) (c .before .before .before .before .before .before .before .before .before .before .args .frame .initial) (c .before .before .before .before .before .before .before .before .before .before .pre .3) (c .before .before .before .before .first-unreached .ensures)) (c .before .before .enum-told2 .given .1))
+    (halt (whole (λ x. c .before .started .ensures .fails (not-true _ (c .if1 .taken)) (c .before .before .before .before .before .before .before .before .before .before .pre .0, x)))))
 
 returns-4 : tie.Need-returns-4
 returns-4 c =
     pass (found-none (c .before .before .before .before .before .before .before .first-same .ensures) (c .before .before .before .before .before .enum-told .given .1))
-    (pass (found-none (reached (c .before .before .before .before .before .before .before .before .before .before .args .table .now) (c .before .before .before .before .before .before .before .before .before .before .args .frame .states) (c .before .before .before .before .before .before .before .before .before .before .args .frame .initial) (c .before .before .before .before .before .before .before .before .before .before .pre .2) (c .before .before .before .before .first-unreached .ensures)) (c .before .before .enum-told2 .given .1))
-    (pass (meets (c .before .has-start .ensures .holds (not-false _ (c .if1 .left)))) ends))
+    (pass (found-none (reached (c .before .before .before .before .before .before .before .before .before .before .args .table .now) (c .before .before .before .before .before .before .before .before .before .before .args .frame .states) (c .before .before .before .before .before .before .before .before .before .before .args .frame .initial) (c .before .before .before .before .before .before .before .before .before .before .pre .3) (c .before .before .before .before .first-unreached .ensures)) (c .before .before .enum-told2 .given .1))
+    (pass (meets (c .before .started .ensures .holds (not-false _ (c .if1 .left)) .1)) ends))
 
 pub check-states-spec : {M : Type 1} → statement M
 check-states-spec =

@@ -1,6 +1,7 @@
 -- `level` expands the couples of its level up to the head of the queue.
 use Rattle.marking.proofs.Levels.{spreads-none, spreads-more, spreads-head}
 use Rattle.marking.specs.inner.Queue.{Spreads, ByRest}
+use Rattle.machine.specs.Runs.{machineOf}
 use native.Mathlib.Numerals.{add-one}
 use borrow.Author.Needs.{needs}
 use native.Mathlib.Omega.{arith}
@@ -12,7 +13,7 @@ use Rattle.marking.proofs.queue.level.Tie as tie
 
 abbrev Inv-loop : tie.InvT-loop
 Inv-loop table ranks₀ parents₀ queue₀ from to sizes rank tail₀ head₀ ranks parents queue tail head =
-    (from ≤ head) × (head ≤ to) × Spreads (ByRest table (sizes .settings) (sizes .frame .inputs)) rank from to head ranks₀ parents₀ queue₀ ranks parents queue tail × (length parents ≡ length parents₀) × (length queue ≡ length queue₀)
+    (from ≤ head) × (head ≤ to) × Spreads (ByRest (machineOf (sizes .frame) table) (sizes .settings)) rank from to head ranks₀ parents₀ queue₀ ranks parents queue tail × (length parents ≡ length parents₀) × (length queue ≡ length queue₀)
 
 abbrev μ-loop : tie.MeasureT-loop
 μ-loop table ranks₀ parents₀ queue₀ from to sizes rank tail₀ head₀ ranks parents queue tail head = to - head

@@ -3,7 +3,7 @@ use borrow.Author.Needs.{needs}
 use native.Mathlib.Omega.{arith}
 use Prim.Native.Nat.{_-_, _≤_}
 use lib.ListN.{length}
-use Rattle.verdict.proofs.Tests.{Unseen, unseen-start, unseen-more, unseen-here, unseen-end}
+use Rattle.verdict.proofs.Tests.{decides-map, Unseen, unseen-start, unseen-more, unseen-here, unseen-end}
 use Rattle.machine.specs.Runs.{machineOf, Fault}
 use Rattle.machine.specs.Runs.Fault.{empty}
 use Rattle.machine.proofs.Sizes.{settings-are}
@@ -20,17 +20,14 @@ abbrev μ-loop : tie.MeasureT-loop
 returns : tie.Need-returns Inv-loop μ-loop
 returns c = unseen-here unseen-start (empty (c .if1 .taken))
 
-is-start-requires : tie.Need-is-start-requires Inv-loop μ-loop
-is-start-requires c κs = (c .before .before .before .before .before .pre, settings-are (c .before .before .before .before .before .pre .sized) (c .before .settings .ensures .0 .0))
-
 returns-2 : tie.Need-returns-2 Inv-loop μ-loop
-returns-2 c = unseen-here unseen-start (at-start (omega arith) (rw (c .before .before .setting .ensures .0) at (c .before .is-start .ensures)) .holds (c .if2 .taken))
+returns-2 c = unseen-here unseen-start (at-start (omega arith) (rw (c .before .before .setting .ensures .0) at (decides-map (λ x. x .1) (λ s. (c .before .before .before .before .before .before .pre, s)) (c .before .is-start .ensures))) .holds (c .if2 .taken))
 
 loop-holds : tie.Need-loop-holds Inv-loop μ-loop
-loop-holds c = (omega arith, omega arith, unseen-more unseen-start (at-start (omega arith) (rw (c .before .before .setting .ensures .0) at (c .before .is-start .ensures)) .fails (c .if2 .left)))
+loop-holds c = (omega arith, omega arith, unseen-more unseen-start (at-start (omega arith) (rw (c .before .before .before .setting .ensures .0) at (decides-map (λ x. x .1) (λ s. (c .before .before .before .before .before .before .before .pre, s)) (c .before .before .is-start .ensures))) .fails (c .before .if2 .left)))
 
 may-change-requires : tie.Need-may-change-requires Inv-loop μ-loop
-may-change-requires c κs = (c .before .before .before .before .before .before .before .before .before .before .before .pre .sized .few-inputs, settings-are (c .before .before .before .before .before .before .before .before .before .before .before .pre .sized) (c .before .before .before .before .before .before .before .settings .ensures .0 .0))
+may-change-requires c κs = (c .before .before .before .before .before .before .before .before .before .before .before .pre .sized .few-inputs, settings-are (c .before .before .before .before .before .before .before .before .before .before .before .pre .sized) (c .before .before .before .before .settings .ensures .0 .0))
 
 returns-3 : tie.Need-returns-3 Inv-loop μ-loop
 returns-3 c = unseen-here (c .before .before .before .before .before .loop .inv .2) (at-change (c .before .before .before .before .before .loop .i) (c .before .before .before .before .before .loop .inv .0) (c .before .before .before .before .loop-test .taken) (rw (c .before .before .before .setting2 .ensures .0, c .before .before .setting3 .ensures .0) at (c .before .may-change .ensures (c .before .before .before .before .before .before .before .before .before .before .before .before .before .args .table .now))) .holds (c .if3 .taken))
@@ -50,8 +47,8 @@ first-fault-spec =
     returns
     (λ c κs. search needs)
     (λ c κs. search needs)
-    is-start-requires
     returns-2
+    (λ c κs. search needs)
     loop-holds
     (λ c. search needs)
     (λ c κs. search needs)

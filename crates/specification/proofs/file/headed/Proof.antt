@@ -2,16 +2,16 @@
 use borrow.Author.Needs.{needs}
 use native.Mathlib.Omega.{arith}
 use borrow.Author.Tests.{not-true, not-false}
-use Rattle.verdict.proofs.Tests.{it-fails, decides-eqb}
-use Rattle.specification.specs.File.{kinds}
+use lib.ListN.{length}
+use Rattle.verdict.proofs.Tests.{it-fails, decides-leb}
 use Rattle.specification.proofs.file.headed.Statement.{statement}
 use Rattle.specification.proofs.file.headed.Tie as tie
 
-returns-4 : tie.Need-returns-4
-returns-4 c =
-    decides-eqb (c .wide .result) kinds
-    (λ e. record { few = omega arith; enough = omega arith; marked = c .before .before .before .has-mark .ensures .holds (not-false _ (c .before .before .if3 .left)); count = omega arith })
-    (λ e. omega arith)
+returns-5 : tie.Need-returns-5
+returns-5 c =
+    decides-leb (c .entry-at2 .result) (length (c .before .before .before .before .before .before .before .before .before .args .file .now))
+    (λ e. record { few = omega arith; marked = c .before .before .before .before .has-mark .ensures .holds (not-false _ (c .before .before .before .if3 .left)); count = omega arith; enough = omega arith })
+    (λ e. omega (arith, e .enough))
 
 pub headed-spec : {M : Type 1} → statement M
 headed-spec =
@@ -19,9 +19,10 @@ headed-spec =
     (tie.spec
     (λ c. it-fails λ e. omega arith)
     (λ c κs. search needs)
-    (λ c. it-fails λ e. omega arith)
+    (λ c. it-fails λ e. omega (arith, e .count, e .enough))
     (λ c κs. search needs)
     (λ c. it-fails λ e. c .before .has-mark .ensures .fails (not-true _ (c .if3 .taken)) (e .marked))
-    (λ c. search needs)
     (λ c κs. search needs)
-    returns-4)
+    (λ c. it-fails λ e. omega (arith, e .count))
+    (λ c κs. search needs)
+    returns-5)

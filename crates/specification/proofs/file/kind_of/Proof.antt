@@ -1,5 +1,6 @@
 -- `kind_of` is the byte at the place of the entry.
 use borrow.Author.Needs.{needs}
+use native.Mathlib.Omega.{arith}
 use mathlib.Core.Path.{ap, _∙_}
 use Prim.Native.Nat.{ℕ}
 use lib.ListN.{getD}
@@ -10,4 +11,4 @@ returns : tie.Need-returns
 returns c = c .wide .ensures .0 ∙ ap (λ (at : ℕ). getD (c .before .before .before .before .args .file .now) at 0) (c .before .before .entry-at .ensures)
 
 pub kind-of-spec : {M : Type 1} → statement M
-kind-of-spec = tie.close (tie.spec (λ c κs. search needs) (λ c. search needs) (λ c κs. search needs) returns)
+kind-of-spec = tie.close (tie.spec (λ c κs. omega (arith, c .shared-slice-known .given 4)) (λ c. search needs) (λ c κs. search needs) returns)

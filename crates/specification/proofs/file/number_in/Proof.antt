@@ -11,4 +11,4 @@ returns : tie.Need-returns
 returns c = (c .two-at .ensures .0 ∙ ap (λ (at : ℕ). twoAt (c .before .before .before .args .file .now) (at + c .before .before .before .args .by)) (c .before .entry-at .ensures), omega arith)
 
 pub number-in-spec : {M : Type 1} → statement M
-number-in-spec = tie.close (tie.spec (λ c κs. search needs) (λ c. search needs) (λ c κs. search needs) returns)
+number-in-spec = tie.close (tie.spec (λ c κs. omega (arith, c .shared-slice-known .given 4)) (λ c. search needs) (λ c κs. search needs) returns)

@@ -14,7 +14,7 @@ returns : tie.Need-returns
 returns c = record { answer = ap (λ k. k .answer) (c .refusal .ensures); refused = λ _. (c .refusal .ensures, refl); done = λ e. absurd (c .before .if1 .taken e); from = c .before .before .before .before .before .before .record-at .ensures; text = omega arith; count = refl }
 
 returns-2 : tie.Need-returns-2
-returns-2 c = record { answer = refl; refused = λ n. absurd (n (c .if1 .left)); done = λ _. (refl, refl); from = c .before .before .before .before .before .record-at .ensures; text = omega arith; count = refl }
+returns-2 c = record { answer = refl; refused = λ n. absurd (n (c .if1 .left)); done = λ _. (record { outputs = refl; evolutions = refl; frame = c .before .before .before .before .before .before .before .pre .1 }, refl); from = c .before .before .before .before .before .record-at .ensures; text = omega arith; count = refl }
 
 pub outcome-spec : {M : Type 1} → statement M
 outcome-spec =

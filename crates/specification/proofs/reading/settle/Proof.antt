@@ -6,7 +6,7 @@ use Prim.Native.Nat.{ℕ, _*_}
 use Rattle.verdict.proofs.Order.{judged-on, judged-stop, judged-passes, pass, halt}
 use Rattle.verdict.proofs.Tests.{at-least}
 use Rattle.verdict.proofs.Fills.{filled-free, filled-map}
-use Rattle.specification.proofs.Settling.{leads-below, scanned, settled, carried, moves-left}
+use Rattle.specification.proofs.Settling.{leads-below, tabled, scanned, settled, carried, moves-left}
 use Rattle.specification.proofs.reading.settle.Statement.{statement}
 use Rattle.specification.proofs.reading.settle.Tie as tie
 
@@ -24,14 +24,13 @@ returns-2 c =
     (judged-on 7 (c .before .before .before .before .before .before .before .before .before .before .before .before .before .before .before .before .before .check-records .ensures) refl (c .before .before .before .before .before .before .before .before .before .before .before .before .before .before .before .if1 .left) (halt (at-least (f .0) (c .before .p .given .1))), (filled-map (λ k x h y e. absurd (omega arith)) (f .1), filled-map (λ k x h y e. y) (c .before .before .before .before .before .before .before .before .before .before .before .before .before .fill-words .ensures)))
 
 check-moves-requires : tie.Need-check-moves-requires
-check-moves-requires c κs = let l = c .before .before .before .before .before .before .before .before .before .before .before .before .before .before .before .before .before .before .before .before .before .before .before .before .pre .0 .ranges in
-    (record { sized = record { some-input = l .some-input; few-inputs = l .few-inputs; few-states = l .few-states; begins = l .begins }; long = omega (arith, c .before .before .before .before .before .before .before .before .before .before .before .before .before .before .before .before .before .before .before .before .before .before .before .before .pre .1, c .before .before .before .before .before .before .fill-moves .ensures .1 .same-length) }, omega (arith, c .before .before .before .before .before .before .before .before .before .before .before .before .before .before .before .before .before .before .before .before .before .before .before .before .pre .2, c .before .before .before .before .before .before .before .before .before .before .before .before .before .before .fill-words .ensures .same-length))
+check-moves-requires c κs = (tabled _ (c .before .before .before .before .before .before .before .before .before .before .before .before .before .before .before .before .before .before .before .before .before .before .before .before .pre .0) (c .before .before .before .before .before .before .before .before .before .before .before .before .before .before .before .before .before .before .before .before .before .before .before .before .pre .1) (omega (arith, c .before .before .before .before .before .before .before .before .before .before .before .before .before .before .before .before .before .before .before .before .before .before .before .before .pre .2, c .before .before .before .before .before .before .fill-moves .ensures .1 .same-length)), omega (arith, c .before .before .before .before .before .before .before .before .before .before .before .before .before .before .before .before .before .before .before .before .before .before .before .before .pre .1 .states, c .before .before .before .before .before .before .before .before .before .before .before .before .before .before .before .before .before .before .before .before .before .before .before .before .pre .3, c .before .before .before .before .before .before .before .before .before .before .before .before .before .before .fill-words .ensures .same-length))
 
 returns-3 : tie.Need-returns-3
 returns-3 c =
     let f = scanned (c .before .before .before .before .before .before .before .before .before .before .before .settings .ensures .0 .0 (c .before .before .before .before .before .before .before .before .before .before .before .before .before .before .before .before .before .before .before .before .before .before .before .before .before .pre .0 .ranges .few-inputs)) (c .before .before .before .before .before .before .before .fill-moves .ensures) in
     let t = settled (c .before .before .before .before .before .before .before .before .before .before .before .before .before .before .before .before .before .before .before .before .before .before .before .before .before .pre .0) (judged-passes 7 (c .before .before .before .before .before .before .before .before .before .before .before .before .before .before .before .before .before .before .before .check-records .ensures) refl (c .before .before .before .before .before .before .before .before .before .before .before .before .before .before .before .before .before .if1 .left) .0) (c .before .before .before .enum-told .given .1) f (c .before .before .before .before .before .before .before .before .before .before .before .before .before .before .before .fill-words .ensures) in
-    let v = carried t (c .check-moves .ensures) in
+    let v = carried t (c .before .before .before .before .before .before .before .before .before .before .before .before .before .before .before .before .before .before .before .before .before .before .before .before .before .pre .1) (c .check-moves .ensures) in
     (judged-on 7 (c .before .before .before .before .before .before .before .before .before .before .before .before .before .before .before .before .before .before .before .check-records .ensures) refl (c .before .before .before .before .before .before .before .before .before .before .before .before .before .before .before .before .before .if1 .left) (pass (t .single) v), (moves-left t v (f .1), filled-map (λ k x h y e. y) (c .before .before .before .before .before .before .before .before .before .before .before .before .before .before .before .fill-words .ensures)))
 
 pub settle-spec : {M : Type 1} → statement M

@@ -1,41 +1,52 @@
--- `sizes_of` reads kind 1, the length of kind 3 and where kind 2 starts.
+-- `sizes_of` reads kind 1, the length of kind 3, where kind 2 starts and the count.
 use borrow.Author.Needs.{needs}
+use native.Mathlib.Omega.{arith}
 use mathlib.Core.Path.{_≡_}
 use mathlib.Core.List.{List}
-use Prim.Native.Nat.{ℕ, _+_, _/_}
-use lib.ListN.{getD}
-use Rattle.specification.specs.File.{lengthOf, startOf}
+use Prim.Native.Nat.{ℕ, _+_, _-_, _/_, _≤_}
+use lib.ListN.{length, getD}
+use Rattle.specification.specs.File.{kinds, WellFormed}
 use Rattle.specification.specs.Records.{sizesOf}
+use Rattle.specification.specs.inner.Private.{Decoded}
+use Rattle.specification.specs.declared.file.Bodies.{Bodies}
 use Rattle.specification.specs.declared.records.Sizes.{Sizes}
-use Rattle.specification.proofs.Laws.{start-second}
+use Rattle.specification.proofs.Laws.{laid-out}
 use Rattle.specification.proofs.records.sizes_of.Statement.{statement}
 use Rattle.specification.proofs.records.sizes_of.Tie as tie
 
--- by what is read, and nothing else of the function
-sizes-are : (file : List ℕ) {at n o s i k l : ℕ} → at ≡ startOf file 0 → n ≡ getD file at 0 → o ≡ getD file (at + 1) 0 → s ≡ getD file (at + 2) 0 → i ≡ getD file (at + 3) 0 → k ≡ lengthOf file 2 → l ≡ lengthOf file 0
-    → _≡_ {A = Sizes} (record { inputs = n; outputs = o; states = s; initial = i; evolutions = k / 3; first = at + l }) (sizesOf file)
-sizes-are file e n o s i k l = cc (e, n, o, s, i, k, l, start-second file)
+module _ {file : List ℕ} {b : Bodies} (p : WellFormed file × Decoded file b) where
+  -- kind 1 lies in the file
+  inside : getD (b .at) 0 0 + 4 ≤ length file
+  inside = let o = laid-out file (p .0) in omega (arith, o .0, o .1, o .2, p .1 .at 0 (omega (arith, p .0 .headed .count)))
+
+  -- by what is read, and nothing else of the function
+  sizes-are : {n o s i : ℕ} → n ≡ getD file (getD (b .at) 0 0) 0 → o ≡ getD file (getD (b .at) 0 0 + 1) 0 → s ≡ getD file (getD (b .at) 0 0 + 2) 0 → i ≡ getD file (getD (b .at) 0 0 + 3) 0
+      → _≡_ {A = Sizes} (record { inputs = n; outputs = o; states = s; initial = i; evolutions = getD (b .length) 2 0 / 3; first = getD (b .at) 1 0; more = b .count - kinds }) (sizesOf file)
+  sizes-are n o s i =
+      let d = p .1 in
+      let few = p .0 .headed .count in
+      cc (n, o, s, i, d .at 0 (omega (arith, few)), d .long 2 (omega (arith, few)), d .at 1 (omega (arith, few)), d .count)
 
 returns : tie.Need-returns
-returns c = sizes-are _ (c .before .before .before .before .before .before .before .before .before .before .first-body .ensures .0) (c .before .before .before .before .before .before .before .before .wide .ensures .0) (c .before .before .before .before .before .before .wide2 .ensures .0) (c .before .before .before .before .wide3 .ensures .0) (c .before .before .wide4 .ensures .0) (c .before .length-of .ensures .0) (c .length-of2 .ensures .0)
+returns c = sizes-are (c .before .before .before .before .before .before .before .before .before .before .before .before .pre) (c .before .before .before .before .before .before .before .before .wide .ensures .0) (c .before .before .before .before .before .before .wide2 .ensures .0) (c .before .before .before .before .wide3 .ensures .0) (c .before .before .wide4 .ensures .0)
 
 pub sizes-of-spec : {M : Type 1} → statement M
 sizes-of-spec =
     tie.close
     (tie.spec
+    (λ c. search needs)
+    (λ c. omega (arith, inside (c .before .before .before .pre)))
+    (λ c κs. search needs)
+    (λ c. omega (arith, inside (c .before .before .before .before .pre)))
+    (λ c. omega (arith, inside (c .before .before .before .before .before .pre)))
+    (λ c κs. search needs)
+    (λ c. omega (arith, inside (c .before .before .before .before .before .before .pre)))
+    (λ c. omega (arith, inside (c .before .before .before .before .before .before .before .pre)))
+    (λ c κs. search needs)
+    (λ c. omega (arith, inside (c .before .before .before .before .before .before .before .before .pre)))
+    (λ c. omega (arith, inside (c .before .before .before .before .before .before .before .before .before .pre)))
     (λ c κs. search needs)
     (λ c. search needs)
-    (λ c κs. search needs)
     (λ c. search needs)
-    (λ c. search needs)
-    (λ c κs. search needs)
-    (λ c. search needs)
-    (λ c. search needs)
-    (λ c κs. search needs)
-    (λ c. search needs)
-    (λ c. search needs)
-    (λ c κs. search needs)
-    (λ c κs. search needs)
-    (λ c κs. search needs)
-    (λ c. search needs)
+    (λ c. omega (arith, c .before .before .before .before .before .before .before .before .before .before .before .before .pre .1 .count, c .before .before .before .before .before .before .before .before .before .before .before .before .pre .0 .headed .count))
     returns)

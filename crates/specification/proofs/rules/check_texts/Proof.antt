@@ -1,4 +1,4 @@
--- `check_texts` halts at the least record whose condition does not read: each below r reads.
+-- `check_texts` halts at the least condition that does not read: each below r reads.
 use borrow.Author.Needs.{needs}
 use native.Mathlib.Omega.{arith}
 use Prim.Native.Nat.{_-_, _≤_}
@@ -6,6 +6,7 @@ use Rattle.verdict.proofs.Order.{pass, halt, ends}
 use Rattle.verdict.proofs.Tests.{Unseen, unseen-start, unseen-more}
 use Rattle.specification.specs.Rules.{Unreads}
 use Rattle.condition.proofs.Says.{told-reads, told-unread}
+use Rattle.specification.proofs.Conditions.{conditions-few}
 use Rattle.specification.proofs.rules.check_texts.Statement.{statement}
 use Rattle.specification.proofs.rules.check_texts.Tie as tie
 
@@ -14,6 +15,9 @@ Inv-loop file z starts count r₀ r = (r ≤ count) × Unseen (Unreads file z) r
 
 abbrev μ-loop : tie.MeasureT-loop
 μ-loop file z starts count r₀ r = count - r
+
+add-count-2 : tie.Need-add-count-2 Inv-loop μ-loop
+add-count-2 c = omega (arith, conditions-few (c .before .before .before .pre .laid))
 
 returns : tie.Need-returns Inv-loop μ-loop
 returns c = halt (record { here = record { below = omega arith; unread = told-unread (c .before .before .says .ensures) (c .enum-told2 .given .1) }; first = c .before .before .before .before .loop .inv .1 .none })
@@ -28,6 +32,7 @@ check-texts-spec =
     Inv-loop
     μ-loop
     (λ c. search needs)
+    add-count-2
     (λ c. (search needs, unseen-start))
     (λ c κs. search needs)
     (λ c. search needs)

@@ -1,11 +1,10 @@
 -- `next_rules` links the rules: the first r links are right.
 use borrow.Author.Needs.{needs}
 use native.Mathlib.Omega.{arith}
-use Prim.Native.Nat.{ℕ, _-_, _≤_}
-use lib.ListN.{length-replicate}
+use Prim.Native.Nat.{_-_, _≤_}
 use Rattle.verdict.specs.Buffers.{Filled}
 use Rattle.verdict.proofs.Fills.{filled-none, filled-more}
-use Rattle.specification.specs.inner.Private.{mostRecords, Follows}
+use Rattle.specification.specs.inner.Private.{Follows}
 use Rattle.specification.proofs.rules.next_rules.Statement.{statement}
 use Rattle.specification.proofs.rules.next_rules.Tie as tie
 
@@ -16,7 +15,7 @@ abbrev μ-loop : tie.MeasureT-loop
 μ-loop file z count next₀ r₀ next r = count - r
 
 loop-again : tie.Need-loop-again Inv-loop μ-loop
-loop-again c = (omega arith, filled-more (c .before .before .loop .inv .1) (omega (arith, length-replicate {A = ℕ} mostRecords 0)) (c .next-rule .ensures))
+loop-again c = (omega arith, filled-more (c .before .before .loop .inv .1) (omega arith) (c .next-rule .ensures))
 
 pub next-rules-spec : {M : Type 1} → statement M
 next-rules-spec =

@@ -1,14 +1,13 @@
 -- `starts_of` adds up lengths: `at` is where text r begins, and the first r places are right.
 use borrow.Author.Needs.{needs}
 use native.Mathlib.Omega.{arith}
-use mathlib.Core.Path.{_≡_}
-use Prim.Native.Nat.{ℕ, _*_, _-_, _^_, _≤_}
-use lib.ListN.{length-replicate}
+use mathlib.Core.Path.{_≡_, ap, _∙_}
+use Prim.Native.Nat.{_*_, _-_, _^_, _≤_}
 use Rattle.verdict.specs.Buffers.{Filled}
-use Rattle.verdict.proofs.Fills.{filled-none, filled-more}
-use Rattle.specification.specs.inner.Private.{mostRecords}
-use Rattle.specification.specs.Records.{sumTo, textLength}
+use Rattle.verdict.proofs.Fills.{filled-none, filled-more, filled-at}
+use Rattle.specification.specs.Records.{sumTo, records, textLength}
 use Rattle.specification.specs.Rules.{textAt}
+use Rattle.specification.proofs.Conditions.{placed}
 use Rattle.specification.proofs.Laws.{sum-more}
 use Rattle.specification.proofs.rules.starts_of.Statement.{statement}
 use Rattle.specification.proofs.rules.starts_of.Tie as tie
@@ -26,10 +25,12 @@ loop-holds c = (omega arith, omega arith, omega arith, filled-none _)
 loop-again : tie.Need-loop-again Inv-loop μ-loop
 loop-again c =
     let s = sum-more (textLength (c .before .before .before .before .before .before .args .file .now) (c .before .before .before .before .before .before .args .z)) (c .before .before .loop .r) in
-    (omega arith, omega (arith, s), omega (arith, s), filled-more (c .before .before .loop .inv .3) (omega (arith, length-replicate {A = ℕ} mostRecords 0)) (c .before .before .loop .inv .1))
+    (omega arith, omega (arith, s), omega (arith, s), filled-more (c .before .before .loop .inv .3) (omega arith) (c .before .before .loop .inv .1))
 
 returns : tie.Need-returns Inv-loop μ-loop
-returns c = record { laid = c .before .before .before .before .before .pre; at = λ r h. c .before .loop .inv .3 .needed r (omega arith) }
+returns c =
+    let e : c .before .loop .r ≡ records (c .before .before .before .before .before .args .z) = omega arith in
+    placed (c .before .before .before .before .before .pre) (filled-at (c .before .loop .inv .3) e) (omega arith) (c .before .loop .inv .1 ∙ ap (textAt (c .before .before .before .before .before .args .file .now) (c .before .before .before .before .before .args .z)) e)
 
 pub starts-of-spec : {M : Type 1} → statement M
 starts-of-spec =
@@ -47,4 +48,9 @@ starts-of-spec =
     (λ c. search needs)
     (λ c. search needs)
     loop-again
+    (λ c. search needs)
+    (λ c. search needs)
+    (λ c. search needs)
+    (λ c. search needs)
+    (λ c. search needs)
     returns)
