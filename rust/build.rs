@@ -1,24 +1,39 @@
-//! Links the sheet maker's archive, which the checker leaves at the repository root.
+//! Links the sheet maker's archive, which the checker leaves at the repository root for x86-64; on
+//! another machine the one that stands for it, which `emulated/build` makes.
 
 use std::env;
-use std::path::PathBuf;
+use std::fs;
+use std::path::{Path, PathBuf};
 use std::process::exit;
+use std::time::SystemTime;
 
 const ARCHIVE: &str = "libabi.a";
 
+/// When a file was written, or the end of the build: `how` makes the file.
+fn written(file: &Path, how: &str) -> SystemTime {
+    println!("cargo:rerun-if-changed={}", file.display());
+    let written = fs::metadata(file).and_then(|data| data.modified());
+    written.unwrap_or_else(|_| {
+        eprintln!("{} is missing: run `{how}` at the repository root first", file.display());
+        exit(1);
+    })
+}
+
 fn main() {
     let package = env::var("CARGO_MANIFEST_DIR").expect("cargo names the package's folder");
-    let folder = PathBuf::from(package).join("../target/staticlib");
-    let archive = folder.join(ARCHIVE);
+    let target = PathBuf::from(package).join("../target");
     println!("cargo:rerun-if-changed=build.rs");
-    println!("cargo:rerun-if-changed={}", archive.display());
-    if !archive.is_file() {
-        eprintln!(
-            "{} is missing: run `rt staticlib abi` at the repository root first",
-            archive.display()
-        );
-        exit(1);
+    let mut folder = target.join("staticlib");
+    let proved = written(&folder.join(ARCHIVE), "rt staticlib abi");
+    if env::var("CARGO_CFG_TARGET_ARCH").as_deref() != Ok("x86_64") {
+        folder = target.join("emulated");
+        let how = "rust/emulated/build";
+        if written(&folder.join(ARCHIVE), how) < proved {
+            eprintln!("{} is out of date: run `{how}` again", folder.display());
+            exit(1);
+        }
     }
+    println!("cargo:rustc-env=MUNDREFOL_ARCHIVE={}", folder.join(ARCHIVE).display());
     println!("cargo:rustc-link-search=native={}", folder.display());
     println!("cargo:rustc-link-lib=static=abi");
 }

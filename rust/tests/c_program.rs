@@ -25,7 +25,7 @@ fn lamp(compiler: &str, language: &str, standard: &str) {
     let mut command = Command::new(compiler);
     command.arg(standard).args(WARNINGS).arg("-I").arg(package.join("../include"));
     command.args(["-x", language]).arg(package.join("tests/lamp.c")).args(["-x", "none"]);
-    command.arg(package.join("../target/staticlib/libabi.a")).arg("-o").arg(&program);
+    command.arg(env!("MUNDREFOL_ARCHIVE")).arg("-o").arg(&program);
     let output = command.output();
     let output =
         output.unwrap_or_else(|error| panic!("this test needs the compiler `{compiler}`: {error}"));

@@ -11,7 +11,7 @@ use std::collections::BTreeSet;
 use std::fs;
 use std::io::Write;
 use std::path::{Path, PathBuf};
-use std::process::{Command, Stdio};
+use std::process::{Command, Output, Stdio};
 
 fn root() -> PathBuf {
     Path::new(env!("CARGO_MANIFEST_DIR")).join("..")
@@ -24,28 +24,41 @@ fn in_folder(name: &str) -> Vec<u8> {
     })
 }
 
-/// The program, which `rt check sheet` leaves.
-fn program() -> PathBuf {
+/// The program, which `rt check sheet` leaves for x86-64, with a stack of so many KiB if given.
+fn program(stack: Option<usize>) -> Command {
     let program = root().join("target/bin/sheet");
     assert!(program.is_file(), "{}: run `rt check sheet` at the root first", program.display());
-    program
+    let native = cfg!(target_arch = "x86_64");
+    let mut command = match stack {
+        None if native => return Command::new(program),
+        Some(_) if native => Command::new("sh"),
+        _ => Command::new(root().join("rust/emulated/start")),
+    };
+    if let Some(stack) = stack {
+        let limit = format!("ulimit -c 0 && ulimit -s {stack} && exec \"$0\"");
+        let bytes = (stack * 1024).to_string();
+        command.args(if native { ["-c", &limit] } else { ["-s", &bytes] });
+    }
+    command.arg(program);
+    command
 }
 
-/// What the program prints for a file on standard input.
-fn printed(file: &[u8]) -> Vec<u8> {
-    printed_by(&mut Command::new(program()), file)
-}
-
-/// What a command prints for a file on standard input.
-fn printed_by(command: &mut Command, file: &[u8]) -> Vec<u8> {
-    let child = command.stdin(Stdio::piped()).stdout(Stdio::piped()).spawn();
-    let mut child = child.expect("the command runs");
+/// How a command ends, and what it prints and says, for a file on standard input.
+fn ended(mut command: Command, file: &[u8]) -> Output {
+    command.stdin(Stdio::piped()).stdout(Stdio::piped()).stderr(Stdio::piped());
+    let mut child = command.spawn().expect("the command runs");
     let mut input = child.stdin.take().expect("standard input is a pipe");
     // A program that refuses a file early need not read all of it.
     let _ = input.write_all(file);
     drop(input);
-    let output = child.wait_with_output().expect("the program ends");
-    assert!(output.status.success(), "the program ended by {}", output.status);
+    child.wait_with_output().expect("the program ends")
+}
+
+/// What the program prints for a file on standard input, with a stack of so many KiB if given.
+fn printed(stack: Option<usize>, file: &[u8]) -> Vec<u8> {
+    let output = ended(program(stack), file);
+    let said = String::from_utf8_lossy(&output.stderr);
+    assert!(output.status.success(), "the program ended by {}: {said}", output.status);
     output.stdout
 }
 
@@ -114,7 +127,7 @@ fn every_refusal_of_the_program_has_an_example() {
 fn the_program_prints_the_expected_sheets() {
     for example in examples::all() {
         let sheet = in_folder(&format!("{}.sheet", example.name));
-        assert_text(example.name, &printed(&example.bytes), &sheet);
+        assert_text(example.name, &printed(None, &example.bytes), &sheet);
     }
 }
 
@@ -124,25 +137,23 @@ fn the_program_prints_the_sheets_of_generated_files() {
         let sound = random.once_in(2);
         let file = if sound { settled_file(random).bytes() } else { damaged(random) };
         let sheet = plain::sheet(&file);
-        assert_text("sheet", &printed(&file), &sheet);
+        assert_text("sheet", &printed(None, &file), &sheet);
         usize::from(sheet.starts_with(b"REFUSED"))
     });
 }
 
-/// With a stack of 1 MiB: every example, and the largest file.
+/// With a stack of 1 MiB: every example, and the largest file. With a quarter of that it fails, so the
+/// limit is felt.
 #[test]
 fn the_program_needs_little_stack() {
-    let with_little_stack = |file: &[u8]| {
-        let mut command = Command::new("sh");
-        command.args(["-c", "ulimit -s 1024 && exec \"$0\""]).arg(program());
-        printed_by(&mut command, file)
-    };
+    let little = Some(1024);
     for example in examples::all() {
         let sheet = in_folder(&format!("{}.sheet", example.name));
-        assert_text(example.name, &with_little_stack(&example.bytes), &sheet);
+        assert_text(example.name, &printed(little, &example.bytes), &sheet);
     }
     let largest = largest_file(FILE).bytes();
-    assert_text("largest", &with_little_stack(&largest), &plain::sheet(&largest));
+    assert_text("largest", &printed(little, &largest), &plain::sheet(&largest));
+    assert!(!ended(program(Some(256)), &largest).status.success());
 }
 
 /// A file over 65,535 bytes is refused by 1, however long.
@@ -151,7 +162,7 @@ fn the_program_refuses_long_files() {
     for length in [65_535, 65_536, 65_537, 200_000] {
         let mut file = examples::lamp().bytes();
         file.resize(length, b'a');
-        assert_text("long file", &printed(&file), b"REFUSED 1 0\n");
+        assert_text("long file", &printed(None, &file), b"REFUSED 1 0\n");
     }
 }
 

@@ -79,12 +79,13 @@ fn write_script(path: &Path, text: &str) {
     write_executable(path, &format!("#!/bin/sh\n{text}\n"));
 }
 
-/// A root of its own with the script, and a program that is this script.
+/// A root of its own with the script, and a program that is this script, for any machine.
 fn root_with(name: &str, program: Option<&str>) -> PathBuf {
     let root = PathBuf::from(env!("CARGO_TARGET_TMPDIR")).join(name);
     let _ = fs::remove_dir_all(&root);
     let script = fs::read_to_string(self::root().join("sheet")).expect("the script is there");
     write_executable(&root.join("sheet"), &script);
+    write_script(&root.join("rust/emulated/start"), "exec \"$@\"");
     fs::write(root.join("file"), "").expect("the file is written");
     if let Some(text) = program {
         write_script(&root.join("target/bin/sheet"), text);
