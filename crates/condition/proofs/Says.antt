@@ -1,13 +1,12 @@
 -- What follows from what a text says: the promise of `read` leaves one outcome, whether a text reads does not depend on the setting, and
 -- its answer decides whether it holds. By cases on the answers; two values are equal because a text has one tree.
-use Prim.Native.Nat.{ℕ, _+_, _-_}
-use mathlib.Core.Path.{_≡_, refl, sym, ap, subst, subst₂, _∙_}
+use Prim.Native.Nat.{ℕ}
+use mathlib.Core.Path.{_≡_, refl, sym, ap, subst, _∙_}
 use mathlib.Core.Bool.{Bool, true}
 use mathlib.Core.List.{List}
 use native.Mathlib.Omega.{arith}
-use lib.ListN.{take, drop}
 use Rattle.verdict.specs.Checks.{Decides}
-use Rattle.verdict.proofs.Tests.{true≢false}
+use Rattle.verdict.proofs.Tests.{true≢false, decides-unique}
 use Rattle.condition.specs.Grammar.{condition, Tree, holds}
 use Rattle.condition.specs.Condition.{Reads, Holds, Says}
 use Rattle.condition.specs.declared.Meaning.{Meaning}
@@ -39,6 +38,9 @@ only n v w (Is b) Unread s s′ = absurd (says-unread s′ (says-reads s))
 only n v w Unread (Is b) s s′ = absurd (says-unread s (says-reads s′))
 only n v w Unread Unread s s′ = refl
 
+pub holds-only : (n v : ℕ) (w : List ℕ) (r s : Bool) → Decides (Holds n v w) r → Decides (Holds n v w) s → r ≡ s
+holds-only n v w r s = decides-unique _ r s
+
 -- from an answer that is known
 module _ {n v : ℕ} {w : List ℕ} {m : Meaning} (s : Says n v w m) where
   pub told-reads : {b : Bool} → m ≡ Is b → Reads n w
@@ -55,7 +57,3 @@ module _ {n v : ℕ} {w : List ℕ} {m : Meaning} (s : Says n v w m) where
         holds = λ t. record { reads = x .0; true-there = cc (x .1) };
         fails = λ t h. true≢false (cc (only n v w (Is b) (Is true) q (value-says (h .reads) (h .true-there))));
       }
-
--- what k bytes of a file say, from `at` on
-pub says-part : (file : List ℕ) {inputs v : ℕ} {m : Meaning} {at a k n : ℕ} → at ≡ a → k ≡ n → Says inputs v (take (at + k - at) (drop at file)) m → Says inputs v (take n (drop a file)) m
-says-part file {inputs} {v} {m} {at} {k = k} {n} e f s = let l : at + k - at ≡ n = omega arith in subst₂ (λ (a k : ℕ). Says inputs v (take k (drop a file)) m) e l s

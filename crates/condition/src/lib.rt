@@ -5,7 +5,7 @@
 ghost use Prim.Native.Nat.{ℕ, _-_};
 ghost use Rattle.verdict.specs.Checks.{Decides};
 ghost use Rattle.condition.specs.Grammar.{condition as conditionLevel, term as termLevel, factor as factorLevel};
-ghost use Rattle.condition.specs.Condition.{parentheses, Says};
+ghost use Rattle.condition.specs.Condition.{parentheses, Says, Holds};
 ghost use Rattle.condition.specs.inner.Parts.{code, At, Skipped, Found};
 use basics::wide;
 use machine::INPUTS;
@@ -44,6 +44,16 @@ pub fn read(text: &[u8], inputs: usize, setting: usize) -> Meaning
                 Meaning::Unread
             }
         }
+    }
+}
+
+// Whether the text is that of a condition which holds at the setting.
+pub fn holds(text: &[u8], inputs: usize, setting: usize) -> bool
+    ensures { λ r. ⌜ Decides (Holds inputs setting (now (text .entry))) r ⌝ }
+{
+    match read(text, inputs, setting) {
+        Meaning::Is(b) => b,
+        Meaning::Unread => false,
     }
 }
 

@@ -1,3 +1,4 @@
 pub mod Demand3
 pub mod Applies
 pub mod KeepsOff
+pub mod Beyond

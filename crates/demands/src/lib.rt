@@ -1,2 +1,2 @@
-// Demand 3, and keeping off the settings that are ruled out, over what marking and the plan leave in their buffers: no functions. Both
-// are stated in specs/ and proved in proofs/.
+// Demand 3, keeping off the settings that are ruled out, and that bits beyond the settings mean nothing, over what the table jobs leave
+// in their buffers: no functions. They are stated in specs/ and proved in proofs/.

@@ -5,7 +5,7 @@ ghost use Rattle.verdict.specs.Checks.{Decides};
 ghost use Rattle.evolutions.specs.Evolutions.{blank, Met};
 use basics::long;
 use basics::wide;
-use condition::Meaning;
+use condition::holds;
 
 // An evolution: its source and target, the place in the file and the length of its condition.
 #[repr(C)]
@@ -55,8 +55,5 @@ fn met(file: &[u8], e: Evolution, inputs: usize, setting: usize) -> bool
     if file.len() < end {
         return false;
     }
-    let Meaning::Is(b) = condition::read(&file[at..end], inputs, setting) else {
-        return false;
-    };
-    b
+    holds(&file[at..end], inputs, setting)
 }

@@ -1,22 +1,11 @@
 // The settings at which a condition holds, as a set.
 ghost use Prim.Native.Nat.{_+_, _^_, _≤_, _<_};
-ghost use Rattle.verdict.specs.Checks.{Decides};
 ghost use Rattle.sets.specs.Sets.{words, mostMembers, SetOf};
 ghost use Rattle.machine.specs.Limits.{mostInputs};
 ghost use Rattle.condition.specs.Condition.{Holds};
-use condition::Meaning;
+use condition::holds;
 use machine::settings;
 use sets::WORDS;
-
-// Whether the text is that of a condition which holds at the setting.
-fn holds(text: &[u8], inputs: usize, setting: usize) -> bool
-    ensures { λ r. ⌜ Decides (Holds inputs setting (now (text .entry))) r ⌝ }
-{
-    let Meaning::Is(b) = condition::read(text, inputs, setting) else {
-        return false;
-    };
-    b
-}
 
 // The set of the settings below this one, with it where the condition holds.
 fn more(text: &[u8], inputs: usize, setting: usize, set: [u64; WORDS]) -> [u64; WORDS]

@@ -2,14 +2,14 @@
 -- it failed before, and nothing is ruled out.
 use mathlib.Core.Path.{_≡_, refl, sym, ap, subst, _∙_}
 use mathlib.Core.Logic.{⊎-elim}
-use mathlib.Core.List.{List, _∷_}
+use mathlib.Core.List.{List}
 use Prim.Native.Nat.{ℕ, suc, _<_}
 use native.Mathlib.Omega.{arith}
 use lib.ListN.{length}
 use Rattle.condition.specs.Condition.{Reads}
-use Rattle.verdict.specs.Checks.{Check, check, None, Unless, Passed, Judged}
+use Rattle.verdict.specs.Checks.{None, Unless, Passed, Judged}
 use Rattle.verdict.specs.declared.Answer.{Answer}
-use Rattle.verdict.proofs.Order.{judged-row, judged-passes, judged-unique}
+use Rattle.verdict.proofs.Order.{judged-row, judged-same, unless, judged-passes, judged-unique}
 use Rattle.verdict.proofs.Tests.{decides-or, decides-equal}
 use Rattle.machine.specs.Moves.{Start}
 use Rattle.machine.specs.Runs.{machineOf, bareMachine}
@@ -23,12 +23,6 @@ use Rattle.specification.specs.declared.Contents.{Contents}
 use Rattle.specification.proofs.Conditions.{condition-record}
 use Rattle.specification.proofs.Meanings.{never-none}
 use Rattle.specification.proofs.Never.{none-never}
-
-unless : {P Q : Type 0} → (Q → P) → (p : ℕ) → Unless P p → Unless Q p
-unless f p x = (x .0, λ q. x .1 (f q))
-
-same : {F : ℕ → Type 0} {n : ℕ} {cs ds : List Check} {a : Answer} → (Judged cs Passed a → Judged ds Passed a) → Judged (check n F ∷ cs) Passed a → Judged (check n F ∷ ds) Passed a
-same f = judged-row (λ p x. x) (λ p x. x) (λ _. f)
 
 module _ {file : List ℕ} (four : countOf file ≡ kinds) where
   pub formed : FourKinds file → WellFormed file
@@ -84,8 +78,9 @@ module _ {file : List ℕ} (four : countOf file ≡ kinds) where
   judged-before : {tableRoom wordRoom recordRoom : ℕ} {a : Answer} → Judged (checksBefore file tableRoom wordRoom recordRoom) Passed a → Judged (fileChecks file tableRoom wordRoom recordRoom) Passed a
   judged-before v =
       judged-row (unless four-kinds) (unless formed)
-      (λ w. judged-row (unless four-sized) (unless sized) (λ _. same (same (same (same (judged-row unreads record-unreads (λ _. same (same (same (same (same (same (same
-      (judged-row (unless any-start) (unless (start-left w)) (λ _ u. u))))))))))))))) v
+      (λ w. judged-row (unless four-sized) (unless sized)
+      (λ _. judged-same (judged-same (judged-same (judged-same (judged-row unreads record-unreads
+      (λ _. judged-same (judged-same (judged-same (judged-same (judged-same (judged-same (judged-same (judged-row (unless any-start) (unless (start-left w)) (λ _ u. u))))))))))))))) v
 
 -- A file that document 01 reads is read, and the table jobs are handed document 01's machine. Its table and words are those that
 -- `ReadHere` says, in the same words as before.

@@ -44,6 +44,12 @@ filled-after f g =
 pub filled-map : {t : ℕ} {P Q : ℕ → ℕ → Type 0} {a b : List ℕ} → ((c x : ℕ) → c < t → P c x → Q c x) → Filled t P a b → Filled t Q a b
 filled-map m f = record { same-length = f .same-length; needed = λ c h. m c _ h (f .needed c h); beyond = f .beyond }
 
+pub left-map : {number needed blank : ℕ} {P Q : ℕ → ℕ → Type 0} {a b : List ℕ} → ((c x : ℕ) → P c x → Q c x) → Left number needed blank P a b → Left number needed blank Q a b
+left-map f l = record { unchanged = l .unchanged; blanked = l .blanked; filled = λ e. filled-map (λ c x _ y. f c x y) (l .filled e) }
+
+pub written-map : {number : ℕ} {P Q : List ℕ → Type 0} {a b : List ℕ} → ((w : List ℕ) → P w → Q w) → Written number P a b → Written number Q a b
+written-map f x = record { unchanged = x .unchanged; done = λ e. let (w, i, p) = x .done e in (w, f w i, p) }
+
 -- one buffer
 pub filled-unique : {t : ℕ} {Value : ℕ → ℕ → Type 0} {a b d : List ℕ} → ((c x y : ℕ) → c < t → Value c x → Value c y → x ≡ y) → Filled t Value a b → Filled t Value a d → b ≡ d
 filled-unique {t} {Value} {a} {b} {d} one f g = ext-getD 0 b d (f .same-length ∙ sym (g .same-length)) (λ i l. by i (decLt i t))

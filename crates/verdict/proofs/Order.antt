@@ -6,7 +6,7 @@ use mathlib.Core.Bool.{Bool, true, false, cond}
 use Prim.Native.Nat.{ℕ, _≤_, _<_}
 use lib.Dec.{leb}
 use native.Mathlib.Omega.{arith}
-use Rattle.verdict.specs.Checks.{Least, None, Check, check, Then, refused, next, Verdict, Passed, Short, Judged}
+use Rattle.verdict.specs.Checks.{Least, None, Check, check, Then, refused, next, Verdict, Passed, Unless, Short, Judged}
 use Rattle.verdict.specs.declared.Answer.{Answer}
 use Rattle.verdict.proofs.Tests.{least-unique, decides-leb, decides-true, decides-both}
 
@@ -137,9 +137,17 @@ module _ {F : ℕ → Type 0} {n : ℕ} {cs : List Check} {done : Answer → Typ
       by (next m w) = g m (record { verdict = w })
 
   -- a check that fails at the same places, in front of a list that says the same
-  pub judged-row : {G : ℕ → Type 0} {ds : List Check} → ((p : ℕ) → F p → G p) → ((p : ℕ) → G p → F p) → (None G → Judged cs done a → Judged ds done a)
-      → Judged (check n F ∷ cs) done a → Judged (check n G ∷ ds) done a
+  pub judged-row : {G : ℕ → Type 0} {ds : List Check} {end : Answer → Type 0} → ((p : ℕ) → F p → G p) → ((p : ℕ) → G p → F p) → (None G → Judged cs done a → Judged ds end a)
+      → Judged (check n F ∷ cs) done a → Judged (check n G ∷ ds) end a
   judged-row {G} to from then v =
       judged-or v
       (λ l e. record { verdict = refused (record { here = to _ (l .here); first = λ p h g. l .first p h (from p g) }) e })
       (λ m w. let none : None G = record { nowhere = λ p g. m .nowhere p (from p g) } in pass none (then none w))
+
+  -- the same check
+  pub judged-same : {ds : List Check} {end : Answer → Type 0} → (Judged cs done a → Judged ds end a) → Judged (check n F ∷ cs) done a → Judged (check n F ∷ ds) end a
+  judged-same f = judged-row (λ p x. x) (λ p x. x) (λ _. f)
+
+-- where P is not met, nor is what P follows from
+pub unless : {P Q : Type 0} → (Q → P) → (p : ℕ) → Unless P p → Unless Q p
+unless f p x = (x .0, λ q. x .1 (f q))
