@@ -3,6 +3,7 @@ pub mod Members
 pub mod Soundness
 pub mod Same
 pub mod Inputs
+pub mod Ones
 pub mod Couples
 pub mod Sizes
 pub mod Readings

@@ -1,11 +1,9 @@
--- Laws of sizes within their ranges: how many settings and couples there are, and that an order of numbers that is not refuted holds.
+-- Laws of sizes within their ranges: how many settings and couples there are, and that sizes which are not refused are within them.
 use mathlib.Core.Path.{_≡_, refl, ap}
-use mathlib.Core.Logic.{⊎-elim}
-use Prim.Native.Nat.{ℕ, _*_, _^_, _≤_, _<_}
-use native.Mathlib.Omega.{arith}
+use Prim.Native.Nat.{ℕ, _*_, _^_, _≤_}
 use Rattle.verdict.specs.Checks.{None, Unless}
 use Rattle.machine.specs.Limits.{mostInputs, mostCouples, Sized}
-use Rattle.machine.proofs.Order.{below-or}
+use Rattle.machine.proofs.Order.{stable}
 use Rattle.machine.proofs.Couples.{settings-bound, couples-bound}
 
 -- at z settings, as the function `settings` tells them
@@ -18,10 +16,6 @@ module _ {n s i z : ℕ} (sized : Sized n s i) (settings : n ≤ mostInputs → 
 
 pub couples-few : {n s i : ℕ} → Sized n s i → s * 2 ^ n ≤ mostCouples
 couples-few {n} {s} z = couples-bound s (2 ^ n) (z .few-states) (settings-bound (z .few-inputs))
-
--- an order that is not refuted holds
-stable : {a b : ℕ} → ((a ≤ b → ⊥) → ⊥) → a ≤ b
-stable {a} {b} f = ⊎-elim (λ (h : b < a). absurd (f (λ k. omega arith))) (λ h. h) (below-or b a)
 
 pub sizes : {n s i : ℕ} → None (Unless (Sized n s i)) → Sized n s i
 sizes n = record {

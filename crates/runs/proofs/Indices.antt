@@ -9,8 +9,9 @@ use lib.ListN.{length, getD}
 use Rattle.verdict.specs.Checks.{Decides, check, refused, next, Verdict, Passed, Judged}
 use Rattle.verdict.specs.declared.Answer.{Answer}
 use Rattle.verdict.proofs.Tests.{decides-map, decides-not}
-use Rattle.machine.specs.Runs.{Machine, Starts, Changes, Fault}
+use Rattle.machine.specs.Runs.{Machine, size, Starts, Changes, Fault}
 use Rattle.machine.specs.Runs.Fault.{empty, no-start, no-change}
+use Rattle.machine.proofs.Order.{stable}
 use Rattle.tables.specs.Tables.{Tabled}
 use Rattle.runs.specs.Faults.{faultChecks}
 
@@ -31,6 +32,11 @@ module _ {m : Machine} {run : List ℕ} {b : Bool} where
     where
       clears : Fault m run (suc i) → Changes m (getD run i 0) (getD run (suc i) 0) → ⊥
       clears (no-change _ n) c = n c
+
+-- where there is no fault, the setting is one of the machine's
+pub faultless-below : {m : Machine} {run : List ℕ} (i : ℕ) → i < length run → (Fault m run i → ⊥) → getD run i 0 < size m
+faultless-below zero l n = stable (λ h. n (no-start l (λ s. h (s .below))))
+faultless-below (suc i) l n = stable (λ h. n (no-change l (λ c. h (c .below))))
 
 -- a list with settings has its faults within it
 pub fault-inside : {m : Machine} {run : List ℕ} → 0 < length run → (i : ℕ) → Fault m run i → i < length run

@@ -1,10 +1,8 @@
 // Whether a list of settings is a run of a table, and where its first fault is: refusal 17.
 ghost use mathlib.Core.Path.{_≡_};
 ghost use mathlib.Core.List.{List};
-ghost use Prim.Native.Nat.{ℕ, _≤_, _^_};
+ghost use Prim.Native.Nat.{ℕ, _<_, _^_};
 ghost use Rattle.verdict.specs.Checks.{Decides, Finds, Passed, Judged};
-ghost use Rattle.machine.specs.Limits.{mostInputs};
-ghost use Rattle.machine.specs.Couples.{differing};
 ghost use Rattle.machine.specs.Runs.{machineOf, Changes, Fault};
 ghost use Rattle.tables.specs.Tables.{Tabled};
 ghost use Rattle.runs.specs.Faults.{faultChecks};
@@ -59,9 +57,9 @@ fn first_fault(frame: Frame, table: &[u8], run: &[u8]) -> Found
     Found::Nothing
 }
 
-// Whether a run may change from v to w: w is one of the m settings and not ruled out, and exactly one input differs.
+// Whether a run may change from v, one of the m settings, to w: w is one too and not ruled out, and exactly one input differs.
 fn may_change(frame: Frame, m: usize, v: usize, w: usize) -> bool
-    requires { ⌜ (frame .inputs ≤ mostInputs) × (m ≡ 2 ^ frame .inputs) ⌝ }
+    requires { ⌜ (m ≡ 2 ^ frame .inputs) × (v < m) ⌝ }
     ensures { λ r. ⌜ ((table : List ℕ) → Decides (Changes (machineOf frame table) v w) r) ⌝ }
 {
     if m <= w {
@@ -70,19 +68,5 @@ fn may_change(frame: Frame, m: usize, v: usize, w: usize) -> bool
     if !usable(frame, w) {
         return false;
     }
-    one_input(frame.inputs, v, w)
-}
-
-// Whether two settings differ in exactly one input.
-fn one_input(inputs: usize, v: usize, w: usize) -> bool
-    requires { ⌜ inputs ≤ mostInputs ⌝ }
-    ensures { λ r. ⌜ Decides (differing inputs v w ≡ 1) r ⌝ }
-{
-    let mut count: usize = 0;
-    for i in 0..inputs {
-        if (v >> i) % 2 != (w >> i) % 2 {
-            count += 1;
-        }
-    }
-    count == 1
+    usize::count_ones(v ^ w) == 1
 }

@@ -30,18 +30,18 @@ zeros (suc n) (suc i) = zeros n i
 pub member-none : (n v : ℕ) → member (replicate n 0) v ≡ false
 member-none n v = rw (zeros n (v / 64), zero-div) refl
 
--- a number below 2 is 0 or 1
-bit-cases : (P : ℕ → Type 0) → P 0 → P 1 → (x : ℕ) → x < 2 → P x
-bit-cases P p q zero h = p
-bit-cases P p q (suc zero) h = q
-bit-cases P p q (suc (suc x)) h = absurd (omega arith)
+-- what holds of each two bits holds of any two numbers below 2
+pub bit-pairs : (P : ℕ → ℕ → Type 0) → P 0 0 → P 0 1 → P 1 0 → P 1 1 → (x y : ℕ) → x < 2 → y < 2 → P x y
+bit-pairs P a b c d zero zero h k = a
+bit-pairs P a b c d zero (suc zero) h k = b
+bit-pairs P a b c d (suc zero) zero h k = c
+bit-pairs P a b c d (suc zero) (suc zero) h k = d
+bit-pairs P a b c d zero (suc (suc y)) h k = absurd (omega arith)
+bit-pairs P a b c d (suc zero) (suc (suc y)) h k = absurd (omega arith)
+bit-pairs P a b c d (suc (suc x)) y h k = absurd (omega arith)
 
 or-table : (x y : ℕ) → x < 2 → y < 2 → eqb (bitOr x y) 1 ≡ eqb x 1 || eqb y 1
-or-table x y h k =
-    bit-cases (λ (u : ℕ). eqb (bitOr u y) 1 ≡ eqb u 1 || eqb y 1)
-    (bit-cases (λ (u : ℕ). eqb (bitOr 0 u) 1 ≡ eqb 0 1 || eqb u 1) refl refl y k)
-    (bit-cases (λ (u : ℕ). eqb (bitOr 1 u) 1 ≡ eqb 1 1 || eqb u 1) refl refl y k)
-    x h
+or-table = bit-pairs (λ (x y : ℕ). eqb (bitOr x y) 1 ≡ eqb x 1 || eqb y 1) refl refl refl refl
 
 or-bit : (a b i : ℕ) → eqb (bitOr a b / 2 ^ i % 2) 1 ≡ eqb (a / 2 ^ i % 2) 1 || eqb (b / 2 ^ i % 2) 1
 or-bit a b i =
@@ -90,18 +90,18 @@ module _ (s : List ℕ) (u : ℕ) (h : u < 64 * length s) where
       other : (v / 64 ≡ u / 64 → ⊥) → member (set s (u / 64) word) v ≡ eqb v u || member s v
       other e = rw (getD-set-other s (u / 64) (v / 64) word 0 e, ne-eqb v u (λ f. e (ap (λ (x : ℕ). x / 64) f))) refl
 
+-- the low bits of a number are one bit more above those before
+pub low-bits : (x n : ℕ) → x % 2 ^ suc n ≡ x / 2 ^ n % 2 * 2 ^ n + x % 2 ^ n
+low-bits x n = rw (← one-add n) (mod-pow-add x 1 n)
+
 -- numbers that agree at each of n bits agree below 2 ^ n
 pub same-bits : (n a b : ℕ) → ((j : ℕ) → j < n → a / 2 ^ j % 2 ≡ b / 2 ^ j % 2) → a % 2 ^ n ≡ b % 2 ^ n
 same-bits zero a b all = omega arith
 same-bits (suc n) a b all =
-    let step : (x : ℕ) → x % 2 ^ suc n ≡ x / 2 ^ n % 2 * 2 ^ n + x % 2 ^ n = λ x. rw (← one-add n) (mod-pow-add x 1 n) in
-    rw (step a, step b) (ap₂ (λ (x y : ℕ). x * 2 ^ n + y) (all n (omega arith)) (same-bits n a b (λ j l. all j (omega arith))))
+    rw (low-bits a n, low-bits b n) (ap₂ (λ (x y : ℕ). x * 2 ^ n + y) (all n (omega arith)) (same-bits n a b (λ j l. all j (omega arith))))
 
 told-one : (x y : ℕ) → x < 2 → y < 2 → eqb x 1 ≡ eqb y 1 → x ≡ y
-told-one x y h k = bit-cases (λ (u : ℕ). eqb u 1 ≡ eqb y 1 → u ≡ y)
-    (bit-cases (λ (u : ℕ). eqb 0 1 ≡ eqb u 1 → 0 ≡ u) (λ e. refl) (λ e. absurd (true≢false (sym e))) y k)
-    (bit-cases (λ (u : ℕ). eqb 1 1 ≡ eqb u 1 → 1 ≡ u) (λ e. absurd (true≢false e)) (λ e. refl) y k)
-    x h
+told-one = bit-pairs (λ (x y : ℕ). eqb x 1 ≡ eqb y 1 → x ≡ y) (λ e. refl) (λ e. absurd (true≢false (sym e))) (λ e. absurd (true≢false e)) (λ e. refl)
 
 -- two sets with the same members are one
 pub set-only : {n : ℕ} {r s : List ℕ} → Words n r → Words n s → ((v : ℕ) → member r v ≡ member s v) → r ≡ s

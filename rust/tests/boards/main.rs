@@ -11,10 +11,10 @@ mod steps;
 use cases::try_cases;
 use library::Tested;
 use mundrefol::generate::{any_table, longest_table, Random, Table};
-use mundrefol::plain::UNMARKED;
-use mundrefol::Frame;
+use mundrefol::plain::{INPUTS, UNMARKED};
+use mundrefol::{Answer, Frame};
 use std::collections::BTreeSet;
-use steps::{has_start, is_run, is_sound, is_used, ranks_by_rounds, starts, visits};
+use steps::{differ_in_one, has_start, is_run, is_sound, is_used, ranks_by_rounds, starts, visits};
 
 /// Every list of `length` numbers below `limit`.
 fn all_lists(limit: usize, length: usize) -> impl Iterator<Item = Vec<u8>> {
@@ -26,6 +26,21 @@ fn all_lists(limit: usize, length: usize) -> impl Iterator<Item = Vec<u8>> {
         };
         (0..length).map(digit).collect()
     })
+}
+
+/// Any two settings, at any number of inputs: a run exactly if one input differs. Of one state every
+/// setting is a start.
+#[test]
+fn all_changes() {
+    for inputs in 1..=INPUTS {
+        let frame = Frame { inputs, states: 1, ..Frame::default() };
+        let moves = vec![0; 1 << inputs];
+        for run in all_lists(1 << inputs, 2) {
+            let one = differ_in_one(run[0].into(), run[1].into());
+            let wanted = if one { Answer::done(3) } else { Answer::refused(17, 1) };
+            assert_eq!(mundrefol::expected(frame, &moves, &[0], &run, &mut [0; 3]), wanted);
+        }
+    }
 }
 
 /// Every sound table of these sizes, from every initial state.

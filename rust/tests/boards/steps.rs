@@ -36,7 +36,8 @@ pub fn has_start(table: &Table) -> bool {
     !starts(table).is_empty()
 }
 
-fn differ_in_one(left: usize, right: usize) -> bool {
+/// Whether exactly one input of two settings differs.
+pub fn differ_in_one(left: usize, right: usize) -> bool {
     (0..INPUTS).filter(|input| left >> input & 1 != right >> input & 1).count() == 1
 }
 

@@ -1,4 +1,4 @@
--- `first_fault` finds the first fault of a list of settings: none has been seen below i.
+-- `first_fault` finds the first fault of a list of settings: none has been seen below i, so that the setting before i is below 2 ^ n.
 use borrow.Author.Needs.{needs}
 use native.Mathlib.Omega.{arith}
 use Prim.Native.Nat.{_-_, _≤_}
@@ -7,7 +7,7 @@ use Rattle.verdict.proofs.Tests.{decides-map, Unseen, unseen-start, unseen-more
 use Rattle.machine.specs.Runs.{machineOf, Fault}
 use Rattle.machine.specs.Runs.Fault.{empty}
 use Rattle.machine.proofs.Sizes.{settings-are}
-use Rattle.runs.proofs.Indices.{at-start, at-change, fault-inside}
+use Rattle.runs.proofs.Indices.{at-start, at-change, faultless-below, fault-inside}
 use Rattle.runs.proofs.faults.first_fault.Statement.{statement}
 use Rattle.runs.proofs.faults.first_fault.Tie as tie
 
@@ -27,7 +27,10 @@ loop-holds : tie.Need-loop-holds Inv-loop μ-loop
 loop-holds c = (omega arith, omega arith, unseen-more unseen-start (at-start (omega arith) (rw (c .before .before .before .setting .ensures .0) at (decides-map (λ x. x .1) (λ s. (c .before .before .before .before .before .before .before .pre, s)) (c .before .before .is-start .ensures))) .fails (c .before .if2 .left)))
 
 may-change-requires : tie.Need-may-change-requires Inv-loop μ-loop
-may-change-requires c κs = (c .before .before .before .before .before .before .before .before .before .before .before .pre .sized .few-inputs, settings-are (c .before .before .before .before .before .before .before .before .before .before .before .pre .sized) (c .before .before .before .before .settings .ensures .0 .0))
+may-change-requires c κs =
+    let m = settings-are (c .before .before .before .before .before .before .before .before .before .before .before .pre .sized) (c .before .before .before .before .settings .ensures .0 .0) in
+    let i = c .before .before .before .loop .i in
+    (m, rw (c .before .setting2 .ensures .0, m) (faultless-below (i - 1) (omega (arith, c .before .before .loop-test .taken)) (c .before .before .before .loop .inv .2 .none (i - 1) (omega arith))))
 
 returns-3 : tie.Need-returns-3 Inv-loop μ-loop
 returns-3 c = unseen-here (c .before .before .before .before .before .loop .inv .2) (at-change (c .before .before .before .before .before .loop .i) (c .before .before .before .before .before .loop .inv .0) (c .before .before .before .before .loop-test .taken) (rw (c .before .before .before .setting2 .ensures .0, c .before .before .setting3 .ensures .0) at (c .before .may-change .ensures (c .before .before .before .before .before .before .before .before .before .before .before .before .before .args .table .now))) .holds (c .if3 .taken))
