@@ -137,6 +137,10 @@ fn print_sheet() {
 /// The program `sheet` against this one with the argument `--sheet`.
 fn bench_program(file: &[u8]) {
     let program = Path::new(env!("CARGO_MANIFEST_DIR")).join("../target/bin/sheet");
+    if cfg!(not(target_arch = "x86_64")) {
+        println!("program   target/bin/sheet is for x86-64, this machine is not");
+        return;
+    }
     if !program.exists() {
         println!("program   target/bin/sheet is missing: run `rt check sheet`");
         return;
