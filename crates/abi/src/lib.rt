@@ -8,7 +8,7 @@ ghost use Rattle.specification.specs.Reading.{ReadAs};
 ghost use Rattle.marking.specs.Marking.{MarkedAs};
 ghost use Rattle.plan.specs.Planning.{RunAs, PlannedAs};
 ghost use Rattle.readings.specs.Expected.{ExpectedAs};
-ghost use Rattle.bench.specs.Log.{Reading, numberOf, placeOf, kindOf, updateOf};
+ghost use Rattle.bench.specs.Log.{numberOf, placeOf, kindOf, updateOf};
 ghost use Rattle.abi.specs.Answers.{outcomeOf};
 use bench::Log;
 use evolutions::Evolution;

@@ -35,7 +35,7 @@ module _ (m : Machine) {r q : Rules} (h : Agree (size m) r q) where
   pub starts-same : (v : ℕ) → Starts (under m r) v → Starts (under m q) v
   starts-same v x = record { below = x .below; rests = x .rests; allowed = sym (h .starts v (x .below)) ∙ x .allowed }
 
-  pub changes-same : (v w : ℕ) → Changes (under m r) v w → Changes (under m q) v w
+  changes-same : (v w : ℕ) → Changes (under m r) v w → Changes (under m q) v w
   changes-same v w x = record { below = x .below; allowed = sym (h .changes v w (x .below)) ∙ x .allowed }
 
   goes-same : (v : ℕ) (ws : List ℕ) → Goes (under m r) v ws → Goes (under m q) v ws
@@ -59,20 +59,20 @@ module _ (m : Machine) {r q : Rules} (h : Agree (size m) r q) where
   rest-same cs s v [] = refl
   rest-same cs s v (w ∷ ws) = rest-same (couple m s v ∷ cs) (move m s w) w ws
 
-  pub rests-same : (vs : List ℕ) → rests (under m r) vs ≡ rests (under m q) vs
+  rests-same : (vs : List ℕ) → rests (under m r) vs ≡ rests (under m q) vs
   rests-same [] = refl
   rests-same (v ∷ vs) = rest-same [] (m .initial) v vs
 
   sees-same : (c : ℕ) (vs : List ℕ) → In c (visits (under m r) vs) → In c (visits (under m q) vs)
   sees-same c vs i = subst (λ (cs : List ℕ). In c cs) (visits-same vs) i
 
-  pub visitor-same : (c : ℕ) (vs : List ℕ) → Visitor (under m r) c vs → Visitor (under m q) c vs
+  visitor-same : (c : ℕ) (vs : List ℕ) → Visitor (under m r) c vs → Visitor (under m q) c vs
   visitor-same c vs x = record { run = run-same vs (x .run); sees = sees-same c vs (x .sees) }
 
   pub marked-same : (c : ℕ) → Marked (under m r) c → Marked (under m q) c
   marked-same c (vs, x) = (vs, visitor-same c vs x)
 
-  pub visited-same : (c : ℕ) (plan : List (List ℕ)) → VisitedBy (under m r) c plan → VisitedBy (under m q) c plan
+  visited-same : (c : ℕ) (plan : List (List ℕ)) → VisitedBy (under m r) c plan → VisitedBy (under m q) c plan
   visited-same c plan (vs, i, j) = (vs, i, sees-same c vs j)
 
 -- what asks it of every run, by the law above both ways

@@ -1,5 +1,4 @@
 -- The first pass counts and chooses what the second writes: the whole plan.
-use native.Mathlib.Omega.{arith}
 use borrow.Author.Needs.{needs}
 use Rattle.plan.proofs.Fronts.{ends-short, ends-front}
 use Rattle.plan.proofs.Flags.{chosen-bytes, chosen-plan, chosen-flags}

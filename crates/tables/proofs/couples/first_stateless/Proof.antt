@@ -2,7 +2,7 @@
 use borrow.Author.Needs.{needs}
 use native.Mathlib.Omega.{arith}
 use mathlib.Core.Path.{_≡_}
-use Prim.Native.Nat.{ℕ, _*_, _-_, _≤_}
+use Prim.Native.Nat.{_*_, _-_, _≤_}
 use Rattle.verdict.proofs.Tests.{Unseen, unseen-start, unseen-more, unseen-here, unseen-end}
 use Rattle.machine.specs.Moves.{Stateless}
 use Rattle.machine.proofs.Couples.{couples-bound, couple-below}
