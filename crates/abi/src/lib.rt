@@ -7,6 +7,7 @@ ghost use Rattle.evolutions.specs.Evolutions.{blank, Met};
 ghost use Rattle.specification.specs.Reading.{ReadAs};
 ghost use Rattle.marking.specs.Marking.{MarkedAs};
 ghost use Rattle.plan.specs.Planning.{RunAs, PlannedAs};
+ghost use Rattle.shorten.specs.Shortening.{ShortenedAs};
 ghost use Rattle.readings.specs.Expected.{ExpectedAs};
 ghost use Rattle.bench.specs.Log.{numberOf, placeOf, kindOf, updateOf};
 ghost use Rattle.abi.specs.Answers.{outcomeOf};
@@ -84,6 +85,14 @@ pub extern "C" fn mundrefol_plan(
     ensures { λ r. ⌜ PlannedAs (machineOf frame (now (table .entry))) (now (ranks .entry)) (now (plan .entry)) r (now (ranks .exit)) (now (plan .exit)) ⌝ }
 {
     plan::plan(frame, table, ranks, plan)
+}
+
+// `shorten::shorten`.
+#[no_mangle]
+pub extern "C" fn mundrefol_shorten(frame: Frame, table: &[u8], plan: &mut [u8]) -> Answer
+    ensures { λ r. ⌜ ShortenedAs (machineOf frame (now (table .entry))) (now (plan .entry)) r (now (plan .exit)) ⌝ }
+{
+    shorten::shorten(frame, table, plan)
 }
 
 // `readings::expected`.

@@ -5,11 +5,12 @@ use mathlib.Core.List.{List, [], _∷_, _++_, append-assoc, append-nil}
 use Prim.Native.Nat.{ℕ, zero, suc, _+_, _≤_, _<_, zero-le}
 use native.Mathlib.Nat.{div-add-mod'}
 use native.Mathlib.Omega.{arith}
-use lib.ListN.{length, length-append}
+use lib.ListN.{length, getD, length-append}
 use lib.Seq.{take-append-seam, drop-append-seam}
 use Rattle.machine.specs.Lists.{In}
 use Rattle.machine.specs.Runs.{Machine, size, Goes, Run}
 use Rattle.machine.specs.Plans.{storedRun, stored, split, runsIn}
+use Rattle.machine.proofs.Members.{in-at}
 
 split-enough : (k : ℕ) (plan : List (List ℕ)) → length plan ≤ k → split k (stored plan) ≡ plan
 split-enough zero [] l = refl
@@ -30,10 +31,13 @@ split-stored plan = split-enough (length (stored plan)) plan (stored-long plan)
 pub stored-once : (p q : List (List ℕ)) → stored p ≡ stored q → p ≡ q
 stored-once p q e = sym (split-stored p) ∙ ap runsIn e ∙ split-stored q
 
--- one run more is stored behind the others
+-- more runs are stored behind the others
+pub stored-append : (plan more : List (List ℕ)) → stored (plan ++ more) ≡ stored plan ++ stored more
+stored-append [] more = refl
+stored-append (ws ∷ plan) more = rw (stored-append plan more) (sym (append-assoc (storedRun ws) (stored plan) (stored more)))
+
 pub stored-more : (plan : List (List ℕ)) (vs : List ℕ) → stored (plan ++ (vs ∷ [])) ≡ stored plan ++ storedRun vs
-stored-more [] vs = append-nil (storedRun vs)
-stored-more (ws ∷ plan) vs = rw (stored-more plan vs) (sym (append-assoc (storedRun ws) (stored plan) (storedRun vs)))
+stored-more plan vs = stored-append plan (vs ∷ []) ∙ ap (λ (l : List ℕ). stored plan ++ l) (append-nil (storedRun vs))
 
 -- the settings of a run are below the size
 goes-below : (m : Machine) (v : ℕ) (ws : List ℕ) → Goes m v ws → (w : ℕ) → In w ws → w < size m
@@ -43,3 +47,11 @@ goes-below m v (u ∷ ws) g w i = ⊎-elim (λ e. rw e (g .0 .below)) (λ j. goe
 pub run-below : (m : Machine) (vs : List ℕ) → Run m vs → (w : ℕ) → In w vs → w < size m
 run-below m [] r w i = absurd i
 run-below m (v ∷ vs) r w i = ⊎-elim (λ e. rw e (r .0 .below)) (λ j. goes-below m v vs (r .1) w j) i
+
+pub setting-below : (m : Machine) (vs : List ℕ) → Run m vs → (i : ℕ) → i < length vs → getD vs i 0 < size m
+setting-below m vs r i l = run-below m vs r (getD vs i 0) (in-at vs i l)
+
+-- and there are some
+pub run-some : (m : Machine) (vs : List ℕ) → Run m vs → 0 < length vs
+run-some m [] r = absurd r
+run-some m (v ∷ vs) r = omega arith

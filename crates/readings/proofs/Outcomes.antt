@@ -7,7 +7,7 @@ use lib.ListN.{length, getD}
 use Rattle.verdict.specs.Checks.{check, Passed, Judged}
 use Rattle.verdict.specs.Buffers.{Front}
 use Rattle.verdict.specs.declared.Answer.{Answer}
-use Rattle.verdict.proofs.Order.{Passes, judged-on, judged-stop, judged-passes, judged-rest, roomy}
+use Rattle.verdict.proofs.Order.{Passes, judged-on, judged-stop, judged-passes, judged-rest, judged-within, roomy}
 use Rattle.verdict.proofs.Fills.{written-nothing, written-done}
 use Rattle.machine.specs.Runs.{Machine, Fault}
 use Rattle.machine.specs.Boards.{readings, specified}
@@ -16,7 +16,6 @@ use Rattle.tables.specs.Tables.{sizeChecks, moveChecks, tableChecks}
 use Rattle.tables.specs.inner.Fits.{Checked}
 use Rattle.tables.proofs.Gate.{checked}
 use Rattle.runs.specs.Faults.{faultChecks}
-use Rattle.runs.proofs.Indices.{run-judged}
 use Rattle.readings.specs.Expected.{readingsNeeded, shapeChecks, expectedChecks, ExpectedAs}
 use Rattle.readings.specs.inner.Walking.{Walkable}
 
@@ -45,7 +44,7 @@ module _ (m : Machine) (words run readings₀ : List ℕ) where
         passed = checked m (judged-passes 10 w refl f)
 
         faults : Judged (check 17 (Fault m run) ∷ []) Passed d
-        faults = run-judged (passed .tabled) u
+        faults = judged-within (passed .tabled) u
 
         all : Judged (expectedChecks m (length words) run (length readings₀)) Passed d
         all = judged-on 3 v refl e (judged-on 10 moves refl f faults)

@@ -1,34 +1,25 @@
 -- Writing the readings of a run forwards: what is written so far, followed by the readings of the settings that are left, is the whole.
 use mathlib.Core.Path.{_≡_, refl, sym, ap, _∙_}
-use mathlib.Core.Logic.{inl, inr}
 use mathlib.Core.List.{List, [], _∷_, _++_}
-use Prim.Native.Nat.{ℕ, zero, suc, _+_, _≤_, _<_}
+use Prim.Native.Nat.{ℕ, _+_, _≤_, _<_}
 use native.Mathlib.Omega.{arith}
 use native.Mathlib.Nat.{zero-add}
 use native.Mathlib.Numerals.{add-one, add-two}
 use lib.ListN.{length, drop, set, getD}
 use lib.Seq.{sets, sets-eq, drop-cons}
 use Rattle.verdict.specs.Buffers.{Front}
-use Rattle.machine.specs.Lists.{In}
 use Rattle.machine.specs.Runs.{Machine, size}
-use Rattle.machine.specs.Runs.Fault.{empty}
 use Rattle.machine.specs.Boards.{Board, readings, readingsFrom}
-use Rattle.machine.proofs.Faults.{run-faultless}
-use Rattle.machine.proofs.Stored.{run-below}
+use Rattle.machine.proofs.Stored.{setting-below, run-some}
 use Rattle.readings.specs.inner.Walking.{Walkable}
-
-in-at : (vs : List ℕ) (i : ℕ) → i < length vs → In (getD vs i 0) vs
-in-at [] i l = absurd (omega arith)
-in-at (v ∷ vs) zero l = inl refl
-in-at (v ∷ vs) (suc i) l = inr (in-at vs i (omega arith))
 
 -- a run has settings, each below the size
 module _ {m : Machine} {words : ℕ} {run : List ℕ} {room : ℕ} (x : Walkable m words run room) where
   pub some : 0 < length run
-  some = let n : length run ≡ 0 → ⊥ = λ e. run-faultless m run .0 (x .is) 0 (empty e) in omega arith
+  some = run-some m run (x .is)
 
   pub below : (i : ℕ) → i < length run → getD run i 0 < size m
-  below i l = run-below m run (x .is) (getD run i 0) (in-at run i l)
+  below i l = setting-below m run (x .is) i l
 
 -- the start's reading, and those of the settings after it
 pub write-start : (b : Board) (run out : List ℕ) → 0 < length run

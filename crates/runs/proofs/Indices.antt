@@ -1,19 +1,16 @@
 -- Refusal 17 at one index of a list of settings: the first is a fault unless it is a start, a later one unless it is a change from the
--- one before, and there is none beyond the end. Where refusals 2 and 3 do not apply to the table, 17 is that of the list alone.
+-- one before, and there is none beyond the end.
 use mathlib.Core.Path.{_≡_}
 use mathlib.Core.Bool.{Bool, not}
-use mathlib.Core.List.{List, [], _∷_}
+use mathlib.Core.List.{List}
 use Prim.Native.Nat.{ℕ, zero, suc, _-_, _≤_, _<_}
 use native.Mathlib.Omega.{arith}
 use lib.ListN.{length, getD}
-use Rattle.verdict.specs.Checks.{Decides, check, refused, next, Verdict, Passed, Judged}
-use Rattle.verdict.specs.declared.Answer.{Answer}
+use Rattle.verdict.specs.Checks.{Decides}
 use Rattle.verdict.proofs.Tests.{decides-map, decides-not}
 use Rattle.machine.specs.Runs.{Machine, size, Starts, Changes, Fault}
 use Rattle.machine.specs.Runs.Fault.{empty, no-start, no-change}
 use Rattle.machine.proofs.Order.{stable}
-use Rattle.tables.specs.Tables.{Tabled}
-use Rattle.runs.specs.Faults.{faultChecks}
 
 suc-pred : (i : ℕ) → suc i - 1 ≡ i
 suc-pred i = omega arith
@@ -42,11 +39,3 @@ faultless-below (suc i) l n = stable (λ h. n (no-change l (λ c. h (c .below)))
 pub fault-inside : {m : Machine} {run : List ℕ} → 0 < length run → (i : ℕ) → Fault m run i → i < length run
 fault-inside h zero f = h
 fault-inside h (suc i) (no-change l n) = l
-
--- refusal 17 where 2 and 3 do not apply to the table
-pub run-judged : {m : Machine} {run : List ℕ} {a : Answer} → Tabled m → Judged (faultChecks m run) Passed a → Judged (check 17 (Fault m run) ∷ []) Passed a
-run-judged {m} {run} {a} t v = by (v .verdict)
-  where
-    by : Verdict (faultChecks m run) Passed a → Judged (check 17 (Fault m run) ∷ []) Passed a
-    by (refused l e) = record { verdict = refused (record { here = l .here .fault; first = λ p h f. l .first p h (record { fit = t; fault = f }) }) e }
-    by (next n d) = record { verdict = next (record { nowhere = λ p f. n .nowhere p (record { fit = t; fault = f }) }) d }

@@ -1,3 +1,4 @@
 pub mod Indices
 pub mod Split
+pub mod Broken
 pub mod Once

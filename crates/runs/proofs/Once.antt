@@ -7,6 +7,10 @@ use Rattle.verdict.specs.declared.Answer.{Answer}
 use Rattle.verdict.proofs.Order.{judged-unique}
 use Rattle.machine.specs.Runs.{Machine}
 use Rattle.runs.specs.Faults.{faultChecks}
+use Rattle.runs.specs.Stored.{brokenChecks}
 
 pub check-run-only : (m : Machine) (run : List ℕ) {a b : Answer} → Judged (faultChecks m run) Passed a → Judged (faultChecks m run) Passed b → a ≡ b
 check-run-only m run v w = judged-unique v w
+
+pub check-plan-only : (m : Machine) (plan : List ℕ) {a b : Answer} → Judged (brokenChecks m plan) Passed a → Judged (brokenChecks m plan) Passed b → a ≡ b
+check-plan-only m plan v w = judged-unique v w

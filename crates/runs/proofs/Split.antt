@@ -30,7 +30,7 @@ runs-none (b ∷ []) h = refl
 runs-none (b ∷ d ∷ bs) h = absurd (omega arith)
 
 -- the first run, and those behind it
-runs-first : (low high : ℕ) (bs : List ℕ) → runsIn (low ∷ high ∷ bs) ≡ take (high * 256 + low) bs ∷ runsIn (drop (high * 256 + low) bs)
+pub runs-first : (low high : ℕ) (bs : List ℕ) → runsIn (low ∷ high ∷ bs) ≡ take (high * 256 + low) bs ∷ runsIn (drop (high * 256 + low) bs)
 runs-first low high bs =
     let n = high * 256 + low in
     ap (λ (l : List (List ℕ)). take n bs ∷ l) (split-same (suc (length bs)) (length (drop n bs)) (drop n bs) (rw length-drop (omega arith)) (omega arith))
@@ -46,15 +46,19 @@ cut n k l e =
     (take-all n l far ∙ sym (take-all k l near), drop-of-length-le l far ∙ sym (drop-of-length-le l near)))
     (eq-or-lt-of-le (omega arith))
 
+-- the count at a byte, and what stands behind it
+pub begins : (plan : List ℕ) (at : ℕ) → at + 2 ≤ length plan → drop at plan ≡ getD plan at 0 ∷ getD plan (at + 1) 0 ∷ drop (at + 2) plan
+begins plan at h =
+    let one : at + 1 ≡ suc at = omega arith in
+    let two : at + 2 ≡ suc (suc at) = omega arith in
+    rw (one, two, drop-cons plan at 0 (omega arith), drop-cons plan (suc at) 0 (omega arith))
+
 -- the run at a byte ends where its count says, at the latest with the plan
 pub next-run : (plan : List ℕ) (at : ℕ) {end : ℕ} → end ≡ storedEnd plan at → at + 2 ≤ length plan
     → runsIn (drop at plan) ≡ take (end - (at + 2)) (drop (at + 2) plan) ∷ runsIn (drop end plan)
 next-run plan at {end} e h =
     let parts = cut (settingsAt plan at) (end - (at + 2)) (drop (at + 2) plan) (rw length-drop (omega arith)) in
-    let one : at + 1 ≡ suc at = omega arith in
-    let two : at + 2 ≡ suc (suc at) = omega arith in
     let all : at + 2 + (end - (at + 2)) ≡ end = omega arith in
-    let begins : drop at plan ≡ getD plan at 0 ∷ getD plan (at + 1) 0 ∷ drop (at + 2) plan = rw (one, two, drop-cons plan at 0 (omega arith), drop-cons plan (suc at) 0 (omega arith)) in
-    ap runsIn begins
+    ap runsIn (begins plan at h)
     ∙ runs-first (getD plan at 0) (getD plan (at + 1) 0) (drop (at + 2) plan)
     ∙ ap₂ (λ (run rest : List ℕ). run ∷ runsIn rest) (parts .0) (parts .1 ∙ drop-drop (end - (at + 2)) (at + 2) plan ∙ ap (λ (k : ℕ). drop k plan) all)

@@ -38,7 +38,7 @@ pub fn check_run(frame: Frame, table: &[u8], run: &[u8]) -> Answer
 }
 
 // The first index at which a list of settings is no run, 0 if it is empty.
-fn first_fault(frame: Frame, table: &[u8], run: &[u8]) -> Found
+pub(crate) fn first_fault(frame: Frame, table: &[u8], run: &[u8]) -> Found
     requires { ⌜ Tabled (machineOf frame (now table)) ⌝ }
     ensures { λ r. ⌜ Finds (Fault (machineOf frame (now (table .entry))) (now (run .entry))) r ⌝ }
 {

@@ -3,5 +3,6 @@ mod faults;
 mod stored;
 
 pub use crate::faults::check_run;
+pub use crate::stored::check_plan;
 pub use crate::stored::run_end;
 pub use crate::stored::setting;

@@ -55,7 +55,7 @@ module _ {m : Machine} where
 
 -- a couple's number by a shift: it stands in the table, and the element there is its move
 module _ {m : Machine} (t : Tabled m) {s v : ℕ} (h : s < m .states) (k : v < size m) where
-  shifted : s * size m % 2 ^ 64 ≡ s * size m
+  pub shifted : s * size m % 2 ^ 64 ≡ s * size m
   shifted = omega (arith, digits-lt h k, couples-few (t .sized))
 
   pub couple-inside : s * size m % 2 ^ 64 + v < length (m .table)

@@ -6,7 +6,7 @@ use mathlib.Core.Bool.{Bool, true, false, cond}
 use Prim.Native.Nat.{ℕ, _≤_, _<_}
 use lib.Dec.{leb}
 use native.Mathlib.Omega.{arith}
-use Rattle.verdict.specs.Checks.{Least, None, Check, check, Then, refused, next, Verdict, Passed, Unless, Short, Judged}
+use Rattle.verdict.specs.Checks.{Least, None, Check, check, Then, refused, next, Verdict, Passed, Unless, Short, Within, Judged}
 use Rattle.verdict.specs.declared.Answer.{Answer}
 use Rattle.verdict.proofs.Tests.{least-unique, decides-leb, decides-true, decides-both}
 
@@ -147,6 +147,10 @@ module _ {F : ℕ → Type 0} {n : ℕ} {cs : List Check} {done : Answer → Typ
   -- the same check
   pub judged-same : {ds : List Check} {end : Answer → Type 0} → (Judged cs done a → Judged ds end a) → Judged (check n F ∷ cs) done a → Judged (check n F ∷ ds) end a
   judged-same f = judged-row (λ p x. x) (λ p x. x) (λ _. f)
+
+-- the check of what is fit, where it is
+pub judged-within : {G : Type 0} {F : ℕ → Type 0} {n : ℕ} {cs : List Check} {done : Answer → Type 0} {a : Answer} → G → Judged (check n (Within G F) ∷ cs) done a → Judged (check n F ∷ cs) done a
+judged-within g = judged-row (λ p x. x .fault) (λ p f. record { fit = g; fault = f }) (λ _ v. v)
 
 -- where P is not met, nor is what P follows from
 pub unless : {P Q : Type 0} → (Q → P) → (p : ℕ) → Unless P p → Unless Q p

@@ -1,0 +1,10 @@
+pub mod Pass
+pub mod Marks
+pub mod Walking
+pub mod Moving
+pub mod Marking
+pub mod Keeping
+pub mod Outcomes
+pub mod Once
+pub mod Shorter
+pub mod Examples

@@ -1,0 +1,56 @@
+-- The two passes over the bytes of a plan, by a mark for each couple: the byte at which the last run that visits it starts, 0 if none
+-- does, and the length of the plan once a run that stays visits it.
+use mathlib.Core.Path.{_≡_}
+use mathlib.Core.Logic.{_↔_}
+use mathlib.Core.List.{List, [], _∷_, _++_}
+use Prim.Native.Nat.{ℕ, _+_, _-_, _≤_, _<_}
+use lib.ListN.{length, getD, set, take, drop}
+use lib.Seq.{paste}
+use Rattle.verdict.specs.Buffers.{Front}
+use Rattle.machine.specs.Lists.{In}
+use Rattle.machine.specs.Runs.{Machine, size, couples, couple, move, visits}
+use Rattle.machine.specs.Plans.{VisitedBy, stored}
+use Rattle.tables.specs.inner.Fits.{Checked}
+use Rattle.shorten.specs.Shortening.{Shortened}
+use Rattle.shorten.specs.declared.Visited.{Visited}
+
+-- a table that passed, and a mark for each couple
+pub record Ground (m : Machine) (marks : ℕ) : Type 0 where
+  pub checked : Checked m
+  pub room : couples m ≤ marks
+
+-- what a change to setting w in state s visits, and the state then
+pub record Changed (m : Machine) (s w : ℕ) (r : Visited) : Type 0 where
+  pub entered : r .entered ≡ couple m s w
+  pub moved : r .moved ≡ couple m (move m s w) w
+  pub state : r .state ≡ move m s w
+
+-- each couple of the list marked with x
+abbrev pub noted : List ℕ → ℕ → List ℕ → List ℕ
+noted [] x marks = marks
+noted (c ∷ cs) x marks = noted cs x (set marks c x)
+
+-- each couple of the list has a mark of at least x
+pub record Reach (cs : List ℕ) (x : ℕ) (marks : List ℕ) : Type 0 where
+  pub each : (c : ℕ) → In c cs → x ≤ getD marks c 0
+
+-- Where the runs `rest` stand from byte p on: a couple's mark reaches the end of one of them exactly if a run behind that end, or one that
+-- stays, visits the couple.
+pub record Tells (m : Machine) (p : ℕ) (kept rest : List (List ℕ)) (marks : List ℕ) : Type 0 where
+  pub told : (done later : List (List ℕ)) (c : ℕ) → rest ≡ done ++ later → 0 < length done → c < couples m → (p + length (stored done) ≤ getD marks c 0) ↔ VisitedBy m c (kept ++ later)
+
+-- the settings of the run that is stored from byte p up to byte e
+abbrev pub settingsIn : ℕ → ℕ → List ℕ → List ℕ
+settingsIn p e plan = take (e - (p + 2)) (drop (p + 2) plan)
+
+-- what one turn of the second pass does with the run vs, stored from byte p up to byte e: bytes kept, at byte q, then plan and marks
+pub data Turn (m : Machine) (vs : List ℕ) (p e q : ℕ) (plan marks : List ℕ) : ℕ → List ℕ → List ℕ → Type 0 where
+  out : Reach (visits m vs) e marks → Turn m vs p e q plan marks 0 plan marks
+  stays : (Reach (visits m vs) e marks → ⊥) → Turn m vs p e q plan marks (e - p) (paste plan q (drop p plan) (e - p)) (noted (visits m vs) (length plan) marks)
+
+-- what the second pass leaves: bytes kept, plan
+pub record Kept (m : Machine) (plan₀ : List ℕ) (n : ℕ) (plan₁ : List ℕ) : Type 0 where
+  pub bytes : List ℕ
+  pub shortened : Shortened m plan₀ bytes
+  pub count : n ≡ length bytes
+  pub front : Front bytes plan₀ plan₁
