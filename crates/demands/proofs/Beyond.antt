@@ -1,6 +1,6 @@
 -- What a frame's set holds beyond the settings means nothing to a table job: with two sets that agree below 2^n each promise is met by
--- the same answer and the same buffers, row by row of its checks, by the laws of such machines; `mark-only`, `run-to-only`, `plan-only`
--- and `only` say that no other answer meets it. The way back is the same law with the two sets exchanged.
+-- the same answer and the same buffers, row by row of its checks, by the laws of such machines; `mark-only`, `run-to-only`, `plan-only`,
+-- `shorten-only` and `only` say that no other answer meets it. The way back is the same law with the two sets exchanged.
 use mathlib.Core.Path.{_≡_}
 use mathlib.Core.List.{List, [], _++_}
 use Prim.Native.Nat.{ℕ, _^_, _<_}
@@ -11,11 +11,14 @@ use Rattle.verdict.proofs.Order.{judged-row, judged-same, unless}
 use Rattle.verdict.proofs.Fills.{left-map, written-map}
 use Rattle.machine.specs.Runs.{Machine, usable, machineOf, size, Starts}
 use Rattle.machine.specs.declared.Frame.{Frame}
-use Rattle.machine.proofs.Beyond.{Rules, Agree, under, agree-back, rulesOf, withSet, frames-agree, starts-same, marked-same, rank-same, cell-same, run-to-same, plan-same, fault-same}
+use Rattle.machine.proofs.Beyond.{Rules, Agree, under, agree-back, rulesOf, withSet, frames-agree, starts-same, marked-same, rank-same, cell-same, run-to-same, plan-same, fault-same, sees-same, visited-same}
 use Rattle.marking.specs.Marking.{markChecks, MarkedAs}
 use Rattle.marking.proofs.Once.{mark-only}
 use Rattle.plan.specs.Planning.{ShortRun, RunDone, RunAs, PlanBytes, ShortPlan, PlanDone, PlannedAs}
 use Rattle.plan.proofs.Once.{run-to-only, plan-only}
+use Rattle.runs.specs.Stored.{Broken}
+use Rattle.shorten.specs.Shortening.{Superfluous, Shortens, Shortened, ShortenDone, ShortenedAs}
+use Rattle.shorten.proofs.Once.{shorten-only}
 use Rattle.readings.specs.Expected.{SizedRun, ExpectedAs}
 use Rattle.readings.proofs.Once.{only}
 
@@ -34,6 +37,22 @@ module _ (m : Machine) {r q : Rules} (h : Agree (size m) r q) where
 
   sized-run : (run : List ℕ) → SizedRun (under m r) run → SizedRun (under m q) run
   sized-run run x = record { sizes = x .sizes; few-settings = x .few-settings }
+
+  superfluous-same : {vs : List ℕ} (others : List (List ℕ)) → Superfluous (under m r) vs others → Superfluous (under m q) vs others
+  superfluous-same {vs} others s = record { elsewhere = λ c i. visited-same m h c others (s .elsewhere c (sees-same m (agree-back h) c vs i)) }
+
+-- what asks it of every run, by the law above both ways
+module _ (m : Machine) {r q : Rules} (h : Agree (size m) r q) where
+  shortens-same : {kept runs left : List (List ℕ)} → Shortens (under m r) kept runs left → Shortens (under m q) kept runs left
+  shortens-same Shortens.ends = Shortens.ends
+  shortens-same (Shortens.out {kept} {later} s x) = Shortens.out (superfluous-same m h (kept ++ later) s) (shortens-same x)
+  shortens-same (Shortens.stays {kept} {later} n x) = Shortens.stays (λ s. n (superfluous-same m (agree-back h) (kept ++ later) s)) (shortens-same x)
+
+  shortened-same : {bytes : List ℕ} (w : List ℕ) → Shortened (under m r) bytes w → Shortened (under m q) bytes w
+  shortened-same w s = record { runs = s .runs; left = s .left; splits = s .splits; shortens = shortens-same (s .shortens); stores = s .stores }
+
+  broken-same : {bytes : List ℕ} (p : ℕ) → Broken (under m r) bytes p → Broken (under m q) bytes p
+  broken-same p b = record { inside = b .inside; before = b .before; splits = b .splits; refused = λ vs after e. let (i, f) = b .refused vs after e in (i, fault-same m h i f) }
 
 module _ (f : Frame) (never T : List ℕ) (same : (v : ℕ) → v < 2 ^ f .inputs → usable f v ≡ usable (withSet f never) v) where
   abbrev g : Frame
@@ -87,6 +106,15 @@ module _ (f : Frame) (never T : List ℕ) (same : (v : ℕ) → v < 2 ^ f .input
     readings = x .readings;
   }
 
+  shorten-done : {plan : List ℕ} {a : Answer} → Judged [] (ShortenDone (machineOf f T) plan) a → Judged [] (ShortenDone (machineOf g T) plan) a
+  shorten-done v = let d = v .verdict in record { verdict = record { number = d .number; kept = d .kept; shortened = shortened-same m to (d .kept) (d .shortened); place = d .place } }
+
+  shorten-carries : {plan₀ plan₁ : List ℕ} {a : Answer} → ShortenedAs (machineOf f T) plan₀ a plan₁ → ShortenedAs (machineOf g T) plan₀ a plan₁
+  shorten-carries x = record {
+    verdict = judged-same (judged-same (judged-same (judged-same (judged-row (broken-same m to) (broken-same m from) (λ _. shorten-done))))) (x .verdict);
+    plan = written-map (shortened-same m to) (x .plan);
+  }
+
   -- two outcomes of a job, one with each set, are one
   pub mark-beyond : {R R₁ R₂ : List ℕ} {a b : Answer} → MarkedAs (machineOf f T) R a R₁ → MarkedAs (machineOf g T) R b R₂ → (a ≡ b) × (R₁ ≡ R₂)
   mark-beyond x y = mark-only (mark-carries x) y
@@ -98,6 +126,9 @@ module _ (f : Frame) (never T : List ℕ) (same : (v : ℕ) → v < 2 ^ f .input
   pub plan-beyond : {ranks plan ranks₁ ranks₂ plan₁ plan₂ : List ℕ} {a b : Answer} → PlannedAs (machineOf f T) ranks plan a ranks₁ plan₁ → PlannedAs (machineOf g T) ranks plan b ranks₂ plan₂
       → (a ≡ b) × (ranks₁ ≡ ranks₂) × (plan₁ ≡ plan₂)
   plan-beyond x y = plan-only (plan-carries x) y
+
+  pub shorten-beyond : {plan x y : List ℕ} {a b : Answer} → ShortenedAs (machineOf f T) plan a x → ShortenedAs (machineOf g T) plan b y → (a ≡ b) × (x ≡ y)
+  shorten-beyond u v = shorten-only (shorten-carries u) v
 
   pub expected-beyond : {words run readings₀ x y : List ℕ} {a b : Answer} → ExpectedAs (machineOf f T) words run readings₀ a x → ExpectedAs (machineOf g T) words run readings₀ b y → (a ≡ b) × (x ≡ y)
   expected-beyond u v = only (expected-carries u) v

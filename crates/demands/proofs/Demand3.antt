@@ -11,13 +11,13 @@ use Rattle.verdict.specs.Buffers.{Left}
 use Rattle.verdict.specs.declared.Answer.{Answer}
 use Rattle.verdict.proofs.Order.{judged-done}
 use Rattle.machine.specs.Limits.{unmarked}
-use Rattle.machine.specs.Runs.{Machine, couples, Rank, RankOrUnmarked}
+use Rattle.machine.specs.Runs.{Machine, couples, Sound, Rank, RankOrUnmarked}
 use Rattle.machine.specs.Plans.{Plan, stored, runsIn}
 use Rattle.machine.specs.Boards.{readings, specified}
 use Rattle.machine.proofs.Exists.{marked-below}
-use Rattle.machine.proofs.Plans.{plan-runs, plan-visits, plan-marked, plan-theorem}
-use Rattle.machine.proofs.Readings.{length-readings}
-use Rattle.machine.proofs.Stored.{split-stored, stored-once}
+use Rattle.machine.proofs.Plans.{plan-runs, plan-visits, plan-marked}
+use Rattle.machine.proofs.Readings.{length-readings, board-theorem}
+use Rattle.machine.proofs.Stored.{split-stored}
 use Rattle.plan.specs.Planning.{PlannedAs}
 use Rattle.plan.proofs.Held.{held-checked, plan-held}
 use Rattle.demands.specs.Demand3.{RankStored, RightRanks, RightPlan, TellsBoards, Expected, TellsBySheets}
@@ -44,6 +44,16 @@ module _ {m : Machine} where
       let n : length w ≡ t .answer .place = ap length x ∙ length-readings (specified m (λ s. getD words s 0)) run ∙ sym (d .place) in
       t .is ∙ ap (take (t .answer .place)) (f .is) ∙ take-at w (drop (length w) (t .before)) (t .answer .place) n ∙ x
 
+  -- bytes that are right tell boards apart
+  pub right-tells : {bytes : List ℕ} → Sound m → RightPlan m bytes → TellsBoards m bytes
+  right-tells {bytes} ok r word differ b like = board-theorem ok differ like (runsIn bytes) (r .runs) (λ c y. r .visits c .1 y)
+
+  -- and bytes that do so do it by the sheets of their runs
+  pub told-by-sheets : (bytes : List ℕ) → TellsBoards m bytes → TellsBySheets m bytes
+  told-by-sheets bytes tells words differ b like sheet told =
+      let t = tells (λ s. getD words s 0) differ b like in
+      (λ h. t .0 (λ vs i. h vs i ∙ sheet-is (told vs i)), λ g vs i. t .1 g vs i ∙ sym (sheet-is (told vs i)))
+
   -- the plan answered 0, with the bytes that it wrote as its place
   module _ {ranks₀ plan₀ ranks₁ plan₁ : List ℕ} {a : Answer} (p : PlannedAs m ranks₀ plan₀ a ranks₁ plan₁) (e : a .number ≡ 0) where
     held : Plan m (couples m) (runsIn (take (a .place) plan₁))
@@ -57,13 +67,11 @@ module _ {m : Machine} where
           runs = plan-runs held;
           visits = λ c. (plan-marked held c, λ y. plan-visits held c (marked-below (held-checked p e .sound) y) y);
           splits = ap stored same ∙ sym f;
-          one-way = λ plan g. stored-once plan runs (g ∙ f) ∙ sym same;
+          one-way = λ plan g. sym (split-stored plan) ∙ ap runsIn g;
         }
 
     pub boards-told : TellsBoards m (take (a .place) plan₁)
-    boards-told word differ b like = plan-theorem (held-checked p e .sound) differ like held
+    boards-told = right-tells (held-checked p e .sound) plan-right
 
     pub sheets-tell : TellsBySheets m (take (a .place) plan₁)
-    sheets-tell words differ b like sheet told =
-        let t = boards-told (λ s. getD words s 0) differ b like in
-        (λ h. t .0 (λ vs i. h vs i ∙ sheet-is (told vs i)), λ g vs i. t .1 g vs i ∙ sym (sheet-is (told vs i)))
+    sheets-tell = told-by-sheets (take (a .place) plan₁) boards-told

@@ -1,4 +1,5 @@
 pub mod Demand3
 pub mod Applies
+pub mod Shortened
 pub mod KeepsOff
 pub mod Beyond

@@ -63,7 +63,7 @@ module _ (m : Machine) {r q : Rules} (h : Agree (size m) r q) where
   rests-same [] = refl
   rests-same (v ∷ vs) = rest-same [] (m .initial) v vs
 
-  sees-same : (c : ℕ) (vs : List ℕ) → In c (visits (under m r) vs) → In c (visits (under m q) vs)
+  pub sees-same : (c : ℕ) (vs : List ℕ) → In c (visits (under m r) vs) → In c (visits (under m q) vs)
   sees-same c vs i = subst (λ (cs : List ℕ). In c cs) (visits-same vs) i
 
   visitor-same : (c : ℕ) (vs : List ℕ) → Visitor (under m r) c vs → Visitor (under m q) c vs
@@ -72,7 +72,7 @@ module _ (m : Machine) {r q : Rules} (h : Agree (size m) r q) where
   pub marked-same : (c : ℕ) → Marked (under m r) c → Marked (under m q) c
   marked-same c (vs, x) = (vs, visitor-same c vs x)
 
-  visited-same : (c : ℕ) (plan : List (List ℕ)) → VisitedBy (under m r) c plan → VisitedBy (under m q) c plan
+  pub visited-same : (c : ℕ) (plan : List (List ℕ)) → VisitedBy (under m r) c plan → VisitedBy (under m q) c plan
   visited-same c plan (vs, i, j) = (vs, i, sees-same c vs j)
 
 -- what asks it of every run, by the law above both ways

@@ -1,7 +1,7 @@
 -- The plan is one plan, visits every marked couple and no other, and is what the computation gives: by induction on the couples gone
 -- through.
 use mathlib.Core.Path.{_≡_, refl, sym, ap₂, subst}
-use mathlib.Core.Logic.{_⊎_, _↔_, ⊎-elim, inl, inr}
+use mathlib.Core.Logic.{_⊎_, ⊎-elim, inl, inr}
 use mathlib.Core.List.{List, [], _∷_, _++_}
 use mathlib.Core.Bool.{Bool, true, false}
 use Prim.Native.Nat.{ℕ, zero, suc, _+_, _<_}
@@ -11,10 +11,9 @@ use lib.ListN.{getD}
 use borrow.Author.Tests.{ne-eqb}
 use Rattle.machine.specs.Limits.{unmarked}
 use Rattle.machine.specs.Lists.{In}
-use Rattle.machine.specs.Runs.{Machine, size, couples, couple, move, Sound, Run, visits, Marked}
+use Rattle.machine.specs.Runs.{Machine, couples, Sound, Run, visits, Marked}
 use Rattle.machine.specs.Shortest.{RunTo}
 use Rattle.machine.specs.inner.Model.{among, visited, planned, planOf, Listed}
-use Rattle.machine.specs.Boards.{Board, readings, specified, Differ, Alike}
 use Rattle.machine.specs.Plans.{VisitedBy, Plan}
 use Rattle.machine.specs.Plans.Plan.{empty, pass, add}
 use Rattle.machine.proofs.Members.{in-front, in-back, in-either}
@@ -22,8 +21,6 @@ use Rattle.machine.proofs.Order.{equal-or}
 use Rattle.verdict.specs.Checks.{Decides}
 use Rattle.verdict.proofs.Tests.{it-fails, decides-map, decides-equal, decides-either, decides-cases}
 use Rattle.machine.proofs.Shortest.{run-to-unique, followed-run}
-use Rattle.machine.proofs.Exists.{marked-below}
-use Rattle.machine.proofs.Readings.{board-theorem}
 
 longer : (m : Machine) (c : ℕ) (plan : List (List ℕ)) (ws : List ℕ) → VisitedBy m c plan → VisitedBy m c (plan ++ (ws ∷ []))
 longer m c plan ws (vs, i, j) = (vs, in-front vs plan (ws ∷ []) i, j)
@@ -96,10 +93,3 @@ module _ {m : Machine} (ok : Sound m) where
       (λ r. inl (rw (ne-eqb (getD ranks c 0) unmarked (λ e. omega (arith, r .0))) refl, followed-run ok (λ d. getD parents d 0) (x .parent) (getD ranks c 0) c (r .1)))
       (λ r. inr (rw (r .0) refl, r .1))
       (x .rank c l))
-
-  -- Demand 3 of the plan: matching readings on all its runs, and equal moves at all marked couples.
-  pub plan-theorem : {word : ℕ → ℕ} → Differ m word → {b : Board} → Alike m word b → {plan : List (List ℕ)} → Plan m (couples m) plan
-      → ((vs : List ℕ) → In vs plan → readings b vs ≡ readings (specified m word) vs)
-      ↔ ((s v : ℕ) → s < m .states → v < size m → Marked m (couple m s v) → b .moves s v ≡ move m s v)
-  plan-theorem differ like {plan} x =
-      board-theorem ok differ like plan (plan-runs x) (λ c y. plan-visits x c (marked-below ok y) y)

@@ -10,6 +10,7 @@ mod never;
 mod plans;
 mod ranks;
 mod records;
+mod shorter;
 
 fn main() {
     files();
@@ -19,6 +20,7 @@ fn main() {
     plans::gate_runs();
     plans::expected_readings();
     plans::wrong_changes();
+    shortened_plans();
     never::lamp();
     never::gate();
 }
@@ -33,6 +35,14 @@ fn files() {
     limits::most();
     limits::longest();
     records::rows();
+}
+
+// Shortening.
+fn shortened_plans() {
+    shorter::lamp();
+    shorter::wrong_plans();
+    shorter::wrong_tables();
+    shorter::gate();
 }
 
 // Marking.

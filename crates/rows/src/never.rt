@@ -7,6 +7,7 @@ use crate::lines::word;
 use crate::plans::planned;
 use crate::plans::readings_of;
 use crate::ranks::published;
+use crate::shorter::shortened;
 use machine::Frame;
 
 // The lamp without setting 1: its ranks and plan, and runs that use it, first at the start, then in a change.
@@ -33,6 +34,13 @@ pub(crate) fn lamp() {
         &table,
         &words,
         b"\x00\x01\x00",
+    );
+    let mut plan = *b"\x01\x00\x00\x03\x00\x00\x01\x00";
+    shortened(
+        b"lamp without a, plan with a change to 1",
+        frame,
+        &table,
+        &mut plan,
     );
 }
 

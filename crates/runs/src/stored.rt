@@ -44,7 +44,9 @@ fn whole_end(plan: &[u8], at: usize) -> Found
     if rest < 2 {
         return Found::Nothing;
     }
-    let settings = wide(plan[at + 1]) * 256 + wide(plan[at]);
+    let low = wide(plan[at]);
+    let high = wide(plan[at + 1]);
+    let settings = high * 256 + low;
     if rest - 2 < settings {
         return Found::Nothing;
     }

@@ -22,8 +22,8 @@ shortened-once {m} x y =
 done-only : {m : Machine} {bytes : List ℕ} (a b : Answer) → ShortenDone m bytes a → ShortenDone m bytes b → a ≡ b
 done-only a b p q = same-answer a b (p .number ∙ sym (q .number)) (p .place ∙ ap length (shortened-once (p .shortened) (q .shortened)) ∙ sym (q .place))
 
-pub only : {m : Machine} {plan : List ℕ} {a b : Answer} {x y : List ℕ} → ShortenedAs m plan a x → ShortenedAs m plan b y → (a ≡ b) × (x ≡ y)
-only {a = a} {b} u v =
+pub shorten-only : {m : Machine} {plan : List ℕ} {a b : Answer} {x y : List ℕ} → ShortenedAs m plan a x → ShortenedAs m plan b y → (a ≡ b) × (x ≡ y)
+shorten-only {a = a} {b} u v =
     let same : a ≡ b = judged-only done-only (u .verdict) (v .verdict) in
     (same, written-unique (λ _ w z e f. shortened-once e f) (u .plan) (rw (sym (ap (λ (c : Answer). c .number) same)) at (v .plan)))
 
