@@ -5,10 +5,11 @@
  * The couple (state, setting) has the number state * 2^inputs + setting. A table gives each couple
  * its move: the state that follows. A couple is at rest if its move is its own state. Settings may be
  * ruled out: no run uses them. A run is a start, a setting not ruled out at which the initial state
- * rests, then settings not ruled out that each differ from the one before in exactly one input. A
- * file's records are its states, then its evolutions, then the condition of kind 5 if it has one, at
- * which a setting is ruled out; they are numbered from 0. A buffer's needed part is what the answer
- * uses of it.
+ * rests, then settings not ruled out that each differ from the one before in exactly one input. It
+ * visits the couple of its start and, at each change, that of the state and the new setting, then the
+ * one it moves to. A file's records are its states, then its evolutions, then the condition of kind 5
+ * if it has one, at which a setting is ruled out; they are numbered from 0. A buffer's needed part is
+ * what the answer uses of it.
  *
  * Every function takes any numbers and any contents. A pointer is never null, whatever its length,
  * and valid for the number of elements that its length names; a buffer that is written does not
@@ -37,6 +38,8 @@
  *   16   run or plan buffer short                                  bytes needed
  *   17   not a run (a setting ruled out is a fault)                index of the first fault, 0 if empty
  *   18   log not sound, or its readings at 4294967295              0
+ *   19   plan bytes that do not split into runs, or a run          byte where that run starts
+ *        that 17 refuses
  *
  * They are checked in this order, each over the whole input before the next; the place is the
  * smallest that fits.
@@ -125,6 +128,16 @@ mundrefol_answer mundrefol_run_to(mundrefol_frame frame, const uint8_t *table, s
  */
 mundrefol_answer mundrefol_plan(mundrefol_frame frame, const uint8_t *table, size_t table_len, uint16_t *ranks, size_t ranks_len,
                                 uint8_t *plan, size_t plan_len);
+
+/*
+ * Shortens a plan, which is all of the plan_len bytes: from the first run to the last, takes out each
+ * one whose couples are all visited by other runs still in. Those left move down in order; together
+ * they visit the same couples, and none of them can be spared. On success the place is the number of
+ * their bytes, and the bytes past it keep their values. An empty plan is no refusal, place 0.
+ * Refused by 2, 3 (the table alone), 4, 10, 19; nothing changes after a refusal. A run of no settings
+ * is refused by 19, and so is every run of a table without a start.
+ */
+mundrefol_answer mundrefol_shorten(mundrefol_frame frame, const uint8_t *table, size_t table_len, uint8_t *plan, size_t plan_len);
 
 /*
  * Writes the readings expected on a run, one byte a setting: after the start one reading, after each

@@ -11,9 +11,9 @@
 enum { SOCKET = 0, MEMORY = 3 };
 
 /* At most so many numbers and buffers in a call; what a buffer's place is a multiple of; the bytes of the room. */
-enum { NUMBERS = 5, BUFFERS = 4, ALIGNED = 64, ROOM = 1 << 24 };
+enum { NUMBERS = 5, BUFFERS = 4, ALIGNED = 64, ROOM = 1 << 25 };
 
-typedef enum { READ, EVOLUTION_HOLDS, MARK, RUN_TO, PLAN, EXPECTED, UPDATE } call_job;
+typedef enum { READ, EVOLUTION_HOLDS, MARK, RUN_TO, PLAN, SHORTEN, EXPECTED, UPDATE } call_job;
 
 /* The job, its numbers in the header's order, its frame, the place in the room and the number of elements of each buffer. */
 typedef struct {

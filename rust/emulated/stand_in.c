@@ -170,6 +170,12 @@ mundrefol_answer mundrefol_plan(mundrefol_frame frame, const uint8_t *table, siz
     return answer_of((call){.job = PLAN, .frame = frame}, buffers).answer;
 }
 
+mundrefol_answer mundrefol_shorten(mundrefol_frame frame, const uint8_t *table, size_t table_len, uint8_t *plan, size_t plan_len)
+{
+    const lent buffers[BUFFERS] = {READS(table, table_len), WRITES(plan, plan_len)};
+    return answer_of((call){.job = SHORTEN, .frame = frame}, buffers).answer;
+}
+
 mundrefol_answer mundrefol_expected(mundrefol_frame frame, const uint8_t *table, size_t table_len, const uint16_t *words, size_t words_len,
                                     const uint8_t *run, size_t run_len, uint16_t *readings, size_t readings_len)
 {

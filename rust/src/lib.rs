@@ -3,6 +3,7 @@
 //! Beside them stands [`plain`], an implementation of the same jobs written from documents 01 and 02
 //! alone, with the same signatures; the tests compare the two, answers and buffers, element by element.
 
+mod entry;
 pub mod examples;
 pub mod file;
 pub mod generate;
@@ -87,77 +88,6 @@ const _: () = {
     assert!(size_of::<Log>() == 204);
     assert!(size_of::<Noted>() == 3 * size_of::<usize>());
 };
-
-mod entry {
-    use super::{Answer, Contents, Evolution, Frame, Log, Noted};
-
-    extern "C" {
-        pub fn mundrefol_read(
-            file: *const u8,
-            file_len: usize,
-            table: *mut u8,
-            table_len: usize,
-            words: *mut u16,
-            words_len: usize,
-            records: *mut Evolution,
-            records_len: usize,
-        ) -> Contents;
-        pub fn mundrefol_evolution_holds(
-            records: *const Evolution,
-            records_len: usize,
-            evolution: usize,
-            file: *const u8,
-            file_len: usize,
-            inputs: usize,
-            setting: usize,
-        ) -> bool;
-        pub fn mundrefol_mark(
-            frame: Frame,
-            table: *const u8,
-            table_len: usize,
-            ranks: *mut u16,
-            ranks_len: usize,
-        ) -> Answer;
-        pub fn mundrefol_run_to(
-            frame: Frame,
-            table: *const u8,
-            table_len: usize,
-            ranks: *mut u16,
-            ranks_len: usize,
-            couple: usize,
-            run: *mut u8,
-            run_len: usize,
-        ) -> Answer;
-        pub fn mundrefol_plan(
-            frame: Frame,
-            table: *const u8,
-            table_len: usize,
-            ranks: *mut u16,
-            ranks_len: usize,
-            plan: *mut u8,
-            plan_len: usize,
-        ) -> Answer;
-        pub fn mundrefol_expected(
-            frame: Frame,
-            table: *const u8,
-            table_len: usize,
-            words: *const u16,
-            words_len: usize,
-            run: *const u8,
-            run_len: usize,
-            readings: *mut u16,
-            readings_len: usize,
-        ) -> Answer;
-        pub fn mundrefol_update(
-            log: *mut Log,
-            run: u16,
-            change: u16,
-            second: bool,
-            expected: u16,
-            seen: u16,
-        ) -> Noted;
-    }
-}
 
 // SAFETY of every call below: each pointer is a slice's own, so never null, whatever its length, and
 // valid for the length beside it; the borrows keep what is written apart from all else.
@@ -245,6 +175,13 @@ pub fn plan(frame: Frame, table: &[u8], ranks: &mut [u16], plan: &mut [u8]) -> A
             plan.as_mut_ptr(),
             plan.len(),
         )
+    }
+}
+
+/// Shortens a plan by the runs whose couples other runs visit; the place is the number of bytes left.
+pub fn shorten(frame: Frame, table: &[u8], plan: &mut [u8]) -> Answer {
+    unsafe {
+        entry::mundrefol_shorten(frame, table.as_ptr(), table.len(), plan.as_mut_ptr(), plan.len())
     }
 }
 

@@ -1,6 +1,6 @@
 /*
  * The lamp through the entry points, as C and as C++: layouts, reading, evolutions, marks, plan, run,
- * readings, log; and the lamp with a setting that is never used.
+ * the plan shortened, readings, log; and the lamp with a setting that is never used.
  */
 
 #include <assert.h>
@@ -132,6 +132,24 @@ static void check_runs(mundrefol_frame frame, const uint8_t *table)
     CHECK(answer.number == 2 && answer.place == 0);
 }
 
+static void check_shorten(mundrefol_frame frame, const uint8_t *table)
+{
+    uint8_t plan[13] = {1, 0, 0, 2, 0, 0, 1, 3, 0, 0, 1, 0, 99};
+    mundrefol_answer answer = mundrefol_shorten(frame, table, 4, plan, 12);
+    CHECK(answer.number == 0 && answer.place == 5);
+    CHECK(memcmp(plan, "\3\0\0\1\0\0\1\3\0\0\1\0\x63", 13) == 0);
+    answer = mundrefol_shorten(frame, table, 4, plan, 0);
+    CHECK(answer.number == 0 && answer.place == 0);
+    answer = mundrefol_shorten(frame, table, 4, plan, 12);
+    CHECK(answer.number == 19 && answer.place == 5);
+    answer = mundrefol_shorten(frame, table, 3, plan, 12);
+    CHECK(answer.number == 3 && answer.place == 4);
+    frame.never[0] = 2;
+    answer = mundrefol_shorten(frame, table, 4, plan, 5);
+    CHECK(answer.number == 19 && answer.place == 0);
+    CHECK(memcmp(plan, "\3\0\0\1\0\0\1\3\0\0\1\0\x63", 13) == 0);
+}
+
 static void check_readings(mundrefol_frame frame, const uint8_t *table, const uint16_t *words)
 {
     const uint8_t run[3] = {0, 1, 0};
@@ -203,6 +221,7 @@ int main(void)
     mundrefol_frame frame = check_read(table, words, records);
     check_evolutions(records);
     check_runs(frame, table);
+    check_shorten(frame, table);
     check_readings(frame, table, words);
     check_never(table, words, records);
     check_log();

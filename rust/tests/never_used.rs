@@ -6,7 +6,7 @@ mod cases;
 use cases::try_cases;
 use mundrefol::examples::{cutter, cutter_alarm, gate, lamp};
 use mundrefol::file::File;
-use mundrefol::generate::{any_table, set_of, settled_file, Table};
+use mundrefol::generate::{any_table, runs_of, set_of, settled_file, Table};
 use mundrefol::plain::{COUPLES, EVOLUTIONS, STATES, UNMARKED, WORDS};
 use mundrefol::{Answer, Contents, Evolution, Frame};
 
@@ -138,12 +138,8 @@ fn bits_beyond_the_settings() {
         if marked.number == 0 {
             let used = |&couple: &usize| !frame.rules_out(couple % settings);
             assert!((0..frame.couples()).filter(|&it| ranks[it] != UNMARKED).all(|it| used(&it)));
-            let mut rest = &plan[..planned.place];
-            while let [low, high, after @ ..] = rest {
-                let (run, unread) = after.split_at(usize::from(u16::from_le_bytes([*low, *high])));
-                assert!(run.iter().all(|&setting| used(&usize::from(setting))));
-                rest = unread;
-            }
+            let runs = runs_of(&plan[..planned.place]);
+            assert!(runs.concat().iter().all(|&setting| used(&usize::from(setting))));
         }
         marked.number
     });

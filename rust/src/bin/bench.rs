@@ -1,6 +1,6 @@
 //! Times the library against the independent implementation on the same inputs, in one run.
 
-use mundrefol::generate::{largest_file, longest_table, Table};
+use mundrefol::generate::{largest_file, longest_table, plan_of, Table};
 use mundrefol::plain::{self, lines, Jobs, COUPLES, EVOLUTIONS, FILE, STATES, UNMARKED};
 use mundrefol::{examples, Contents, Evolution, Frame};
 use std::fs::{self, File};
@@ -25,10 +25,12 @@ fn main() {
     println!(
         "sheet: reading, plan and lines in memory; the lines are written by the same Rust code."
     );
+    println!("shorten: the plan is copied into the buffer before each call, by both.");
     println!("program: a process that reads the file and prints its whole sheet.");
     bench_file("lamp", &examples::lamp().bytes());
     bench_file("gate", &examples::gate().bytes());
-    bench_file("largest", &largest_file(FILE).bytes());
+    let largest = bench_file("largest", &largest_file(FILE).bytes());
+    bench_sizes("largest", &largest);
     let longest = longest_table();
     head("longest runs", "", &longest);
     bench_table(&longest);
@@ -85,6 +87,11 @@ impl Buffers {
     }
 }
 
+/// Prints the head of rows.
+fn columns(first: &str) {
+    println!("{first:<10}{:>16}{:>16}{:>8}", "library", "Rust", "ratio");
+}
+
 /// Prints what an input is, and the head of its rows.
 fn head(name: &str, size: &str, table: &Table) {
     let Frame { inputs, states, .. } = table.frame;
@@ -92,10 +99,10 @@ fn head(name: &str, size: &str, table: &Table) {
     let plan = plain::plan(table.frame, &table.moves, &mut ranks, &mut []).place;
     let highest = ranks.iter().filter(|&&rank| rank != UNMARKED).max().expect("a start is marked");
     println!("\n{name}: {inputs} inputs, {states} states, {size}highest rank {highest}, plan of {plan} bytes");
-    println!("{:<10}{:>16}{:>16}{:>8}", "job", "library", "Rust", "ratio");
+    columns("job");
 }
 
-fn bench_file(name: &str, file: &[u8]) {
+fn bench_file(name: &str, file: &[u8]) -> Table {
     let mut ours = Buffers::new();
     let mut theirs = Buffers::new();
     let contents = plain::read(file, &mut theirs.table, &mut theirs.words, &mut theirs.records);
@@ -126,6 +133,7 @@ fn bench_file(name: &str, file: &[u8]) {
         drop(black_box(plain::sheet(black_box(file))))
     });
     bench_program(file);
+    table
 }
 
 fn print_sheet() {
@@ -172,6 +180,7 @@ fn bench_table(table: &Table) {
     let ranked = (0..theirs.len()).filter(|&couple| theirs[couple] != UNMARKED);
     let farthest = ranked.max_by_key(|&couple| theirs[couple]).expect("some couple is marked");
     bench_plan(table);
+    bench_shorten("shorten", table, &plan_of(table));
     let run = bench_run(table, farthest);
     bench_readings(table, &run);
 }
@@ -189,6 +198,31 @@ fn bench_plan(table: &Table) {
         black_box(plain::plan(frame, black_box(moves), &mut their_ranks, &mut theirs));
     };
     row("plan", &mut library, &mut independent);
+}
+
+fn bench_shorten(job: &str, table: &Table, plan: &[u8]) {
+    let Table { frame, ref moves } = *table;
+    let (mut ours, mut theirs) = (plan.to_vec(), plan.to_vec());
+    let mut library = || {
+        ours.copy_from_slice(black_box(plan));
+        black_box(mundrefol::shorten(frame, black_box(moves), &mut ours));
+    };
+    let mut independent = || {
+        theirs.copy_from_slice(black_box(plan));
+        black_box(plain::shorten(frame, black_box(moves), &mut theirs));
+    };
+    row(job, &mut library, &mut independent);
+}
+
+/// The plan of a table again and again, shortened: the time by its bytes.
+fn bench_sizes(name: &str, table: &Table) {
+    println!("\n{name}: its plan again and again, shortened");
+    columns("bytes");
+    let plan = plan_of(table);
+    for bytes in [1_200_000, 12_000_000, 24_000_000] {
+        let plan = plan.repeat(bytes / plan.len());
+        bench_shorten(&plan.len().to_string(), table, &plan);
+    }
 }
 
 /// The run to the couple of the highest rank.

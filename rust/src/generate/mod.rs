@@ -1,15 +1,17 @@
-//! Seeded inputs for the tests and the benchmarks: tables, conditions and files, sound and damaged.
+//! Seeded inputs for the tests and the benchmarks: tables, conditions, files and plans, sound and damaged.
 
 mod contents;
 mod damage;
 mod files;
 mod never;
+mod plans;
 mod tables;
 mod texts;
 
 pub use damage::damaged;
 pub use files::{file_of_regions, largest_file, random_bytes, random_file, settled_file};
 pub use never::{any_set, never_text, set_of};
+pub use plans::{any_plan, any_runs, plan_of, runs_of, spoil_run, stored, walk};
 pub use tables::{any_table, longest_table, sizes, Regions, Table};
 pub use texts::{dressed, nested, padded, random_condition, sum_of_products};
 

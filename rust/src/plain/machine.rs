@@ -82,6 +82,12 @@ impl<'a> Machine<'a> {
         self.couple(self.to(couple), self.setting(couple))
     }
 
+    /// Couples that a change to a setting visits, of a state: its own there, and the one it moves to.
+    pub fn visits(&self, state: usize, setting: usize) -> [usize; 2] {
+        let changed = self.couple(state, setting);
+        [changed, self.moved(changed)]
+    }
+
     /// Whether a couple is at rest.
     pub fn rests(&self, couple: usize) -> bool {
         self.to(couple) == self.state(couple)

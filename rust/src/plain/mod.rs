@@ -11,7 +11,9 @@ mod machine;
 mod marking;
 mod plan;
 mod readings;
+mod runs;
 mod sheet;
+mod shorten;
 mod specification;
 
 pub use condition::holds;
@@ -21,6 +23,7 @@ pub use marking::mark;
 pub use plan::{plan, run_to};
 pub use readings::expected;
 pub use sheet::{lines, sheet, Jobs, Plan, Read};
+pub use shorten::shorten;
 pub use specification::read;
 
 use crate::Answer;

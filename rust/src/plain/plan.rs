@@ -1,10 +1,8 @@
 //! The run to a couple, and the plan.
 
 use super::marking::Marked;
+use super::runs::LENGTH_BYTES;
 use crate::{Answer, Frame};
-
-/// Bytes before the settings of a stored run.
-const LENGTH_BYTES: usize = 2;
 
 /// Writes the run to a couple; the place is its number of settings.
 pub fn run_to(
@@ -83,9 +81,9 @@ impl Marked<'_> {
         let mut at = couple;
         while let Some(parent) = self.parent(at) {
             let state = self.machine.state(parent);
-            let changed = self.machine.couple(state, self.machine.setting(at));
-            visited[changed] = true;
-            visited[self.machine.moved(changed)] = true;
+            for couple in self.machine.visits(state, self.machine.setting(at)) {
+                visited[couple] = true;
+            }
             at = parent;
         }
         visited[at] = true;

@@ -1,6 +1,7 @@
 //! Expected readings on a run.
 
 use super::machine::Machine;
+use super::runs::first_fault;
 use super::{refuse_at, SETTINGS_OF_A_RUN};
 use crate::{Answer, Frame};
 
@@ -39,23 +40,6 @@ fn checked<'a>(
     machine.check_transients()?;
     refuse_at(17, first_fault(&machine, run))?;
     Ok(machine)
-}
-
-/// Check 17: the index of the first setting that keeps the settings from being a run.
-fn first_fault(machine: &Machine, run: &[u8]) -> Option<usize> {
-    if run.is_empty() {
-        return Some(0);
-    }
-    (0..run.len()).find(|&index| {
-        let setting = usize::from(run[index]);
-        if setting >= machine.settings() || machine.frame.rules_out(setting) {
-            return true;
-        }
-        match index.checked_sub(1) {
-            None => !machine.starts(setting),
-            Some(before) => (run[before] ^ run[index]).count_ones() != 1,
-        }
-    })
 }
 
 /// Writes the readings of a run and answers their number.

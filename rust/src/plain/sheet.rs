@@ -1,5 +1,6 @@
 //! The text of the sheet.
 
+use super::runs::split_first;
 use super::{COUPLES, EVOLUTIONS, PLAN, STATES, UNMARKED};
 use crate::{Answer, Contents, Evolution, Frame};
 use std::io::Write;
@@ -74,8 +75,7 @@ fn write_ranks(text: &mut Vec<u8>, frame: Frame, ranks: &[u16]) {
 
 fn write_runs(text: &mut Vec<u8>, mut plan: &[u8]) {
     let mut number = 1;
-    while let [low, high, rest @ ..] = plan {
-        let (settings, after) = rest.split_at(usize::from(u16::from_le_bytes([*low, *high])));
+    while let Some((settings, after)) = split_first(plan) {
         write!(text, "RUN {number}").expect("a vector takes every byte");
         for setting in settings {
             write!(text, " {setting}").expect("a vector takes every byte");

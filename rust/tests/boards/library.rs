@@ -1,7 +1,8 @@
-//! What the library answers for a table: ranks, runs, plan, expected readings; and boards tried on them.
+//! What the library answers for a table: ranks, runs, plan, the plan shortened, expected readings; and
+//! boards tried on them.
 
 use super::steps;
-use mundrefol::generate::Table;
+use mundrefol::generate::{runs_of, Table};
 use mundrefol::plain::{COUPLES, UNMARKED};
 
 /// The library's ranks.
@@ -20,21 +21,28 @@ pub fn run(table: &Table, couple: usize) -> Vec<usize> {
     run[..answer.place].iter().map(|&setting| usize::from(setting)).collect()
 }
 
-/// The runs of the library's plan.
-pub fn plan(table: &Table) -> Vec<Vec<usize>> {
+/// The library's plan.
+pub fn plan(table: &Table) -> Vec<u8> {
     let mut ranks = vec![0; table.moves.len()];
     let needed = mundrefol::plan(table.frame, &table.moves, &mut ranks, &mut []).place;
     let mut plan = vec![0; needed];
     let answer = mundrefol::plan(table.frame, &table.moves, &mut ranks, &mut plan);
     assert_eq!((answer.number, answer.place), (0, needed));
-    let mut runs = Vec::new();
-    let mut rest = plan.as_slice();
-    while let [low, high, after @ ..] = rest {
-        let (run, unread) = after.split_at(usize::from(u16::from_le_bytes([*low, *high])));
-        runs.push(run.iter().map(|&setting| usize::from(setting)).collect());
-        rest = unread;
-    }
-    runs
+    plan
+}
+
+/// What the library leaves of a plan.
+pub fn shortened(table: &Table, mut plan: Vec<u8>) -> Vec<u8> {
+    let answer = mundrefol::shorten(table.frame, &table.moves, &mut plan);
+    assert_eq!(answer.number, 0);
+    plan.truncate(answer.place);
+    plan
+}
+
+/// The runs of a plan.
+pub fn runs(plan: &[u8]) -> Vec<Vec<usize>> {
+    let settings = |run: Vec<u8>| run.into_iter().map(usize::from).collect();
+    runs_of(plan).into_iter().map(settings).collect()
 }
 
 /// The library's expected readings on a run.
@@ -51,11 +59,16 @@ fn words(states: usize) -> Vec<u16> {
     (0..states as u16).map(|state| state.wrapping_mul(0x9e37) ^ 0x51).collect()
 }
 
-/// A plan with its expected readings and the couples that are marked.
+/// A run with its expected readings.
+type Read = (Vec<usize>, Vec<u16>);
+
+/// A plan with its expected readings, what is left of it when it is shortened, and the couples that
+/// are marked.
 pub struct Tested {
     pub table: Table,
     words: Vec<u16>,
-    plan: Vec<(Vec<usize>, Vec<u16>)>,
+    plan: Vec<Read>,
+    shortened: Vec<Read>,
     pub marked: Vec<usize>,
 }
 
@@ -67,21 +80,25 @@ impl Tested {
             assert_eq!(expected, steps::readings(&table, &words, &run));
             (run, expected)
         };
-        let plan = plan(&table).into_iter().map(with_readings).collect();
+        let stored = plan(&table);
+        let plan = runs(&stored).into_iter().map(with_readings).collect();
+        let shortened = runs(&shortened(&table, stored)).into_iter().map(with_readings).collect();
         let ranks = ranks(&table);
         let marked = (0..ranks.len()).filter(|&couple| ranks[couple] != UNMARKED).collect();
-        Tested { table, words, plan, marked }
+        Tested { table, words, plan, shortened, marked }
     }
 
-    /// All readings match exactly if the moves at all marked couples do. Answers whether they match.
+    /// All readings match exactly if the moves at all marked couples do, those of the plan and those
+    /// of the shortened plan. Answers whether they match.
     pub fn try_board(&self, board: &Table) -> bool {
-        let matches = |(run, expected): &(Vec<usize>, Vec<u16>)| {
-            steps::readings(board, &self.words, run) == *expected
-        };
+        let matches =
+            |(run, expected): &Read| steps::readings(board, &self.words, run) == *expected;
         let same = |&couple: &usize| board.moves[couple] == self.table.moves[couple];
-        let passes = self.plan.iter().all(matches);
-        assert_eq!(passes, self.marked.iter().all(same), "{:?} on {:?}", board, self.table);
-        passes
+        let right = self.marked.iter().all(same);
+        for plan in [&self.plan, &self.shortened] {
+            assert_eq!(plan.iter().all(matches), right, "{:?} on {:?}", board, self.table);
+        }
+        right
     }
 
     pub fn board(&self, moves: Vec<u8>) -> Table {

@@ -1,11 +1,13 @@
 //! Demand 3: marks and ranks are those of all runs, the plan visits the marked couples and no other,
-//! and a board passes all readings of the plan exactly if its moves are right at every marked couple.
+//! and a board passes all readings of the plan, or of the plan shortened, exactly if its moves are
+//! right at every marked couple.
 //! Runs, visits and boards are followed here step by step, apart from both implementations; any
 //! settings may be ruled out.
 
 #[path = "../cases/mod.rs"]
 mod cases;
 mod library;
+mod shortened;
 mod steps;
 
 use cases::try_cases;
@@ -186,7 +188,7 @@ fn the_plan_visits_exactly_the_marked_couples() {
         let ranks = ranks_by_rounds(&table);
         let mut visited = BTreeSet::new();
         let mut next = 0;
-        for run in library::plan(&table) {
+        for run in library::runs(&library::plan(&table)) {
             assert!(is_run(&table, &run));
             let couple = (next..table.moves.len())
                 .find(|couple| ranks[*couple] != UNMARKED && !visited.contains(couple))

@@ -35,13 +35,14 @@ fn random_of(job: &str, seed: u64, case: usize) -> Random {
     Random::new(random.bits())
 }
 
-/// Runs the cases of a job. Each answers one of `answers`, mostly a number, and every one must be met.
+/// Runs the cases of a job. Each answers one of `answers`, mostly a number, and every one must be met;
+/// gives how often each was.
 pub fn try_cases<A: Ord + Debug>(
     job: &'static str,
     cases: usize,
     answers: &[A],
     try_case: impl Fn(&mut Random) -> A,
-) {
+) -> BTreeMap<A, usize> {
     let seed = seed();
     let mut met: BTreeMap<A, usize> = BTreeMap::new();
     for case in 0..cases {
@@ -56,4 +57,5 @@ pub fn try_cases<A: Ord + Debug>(
     for answer in met.keys() {
         assert!(answers.contains(answer), "{job}: {answer:?} is not one of its answers");
     }
+    met
 }

@@ -1,8 +1,8 @@
 //! What the jobs are lent: lengths around the needed ones, junk, tables, runs.
 
-use mundrefol::generate::{any_table, Random, Table};
+use mundrefol::generate::{any_table, spoil_run, walk, Random, Table};
 use mundrefol::plain::{COUPLES, INPUTS, STATES};
-use mundrefol::{Evolution, Frame};
+use mundrefol::Evolution;
 
 /// A buffer's length around the needed one: mostly enough, sometimes short by one or more.
 pub fn length(random: &mut Random, needed: usize) -> usize {
@@ -35,9 +35,14 @@ pub fn junk_records(random: &mut Random, length: usize) -> Vec<Evolution> {
     (0..length).map(record).collect()
 }
 
-/// A table as it is lent: the frame now and then out of range, the bytes longer or shorter.
+/// Some table as it is lent.
 pub fn lent_table(random: &mut Random) -> Table {
-    let mut table = any_table(random);
+    let table = any_table(random);
+    as_lent(random, table)
+}
+
+/// A table as it is lent: the frame now and then out of range, the bytes longer or shorter.
+pub fn as_lent(random: &mut Random, mut table: Table) -> Table {
     let length = length(random, table.moves.len());
     let beyond = junk_bytes(random, length);
     let kept = length.min(table.moves.len());
@@ -72,49 +77,15 @@ pub fn lent_ranks(random: &mut Random, table: &Table) -> Vec<u16> {
 
 /// Settings that mostly are a run of the table, sometimes with a fault, rarely very many.
 pub fn lent_run(random: &mut Random, table: &Table) -> Vec<u8> {
-    let Frame { initial, .. } = table.frame;
-    let inputs = table.frame.inputs.clamp(1, INPUTS);
-    let settings = 1 << inputs;
-    let rests = |&setting: &usize| {
-        let couple = initial.wrapping_mul(settings).wrapping_add(setting);
-        table.moves.get(couple).is_some_and(|&state| usize::from(state) == initial)
-    };
     let careless = random.once_in(5);
-    let used = |&setting: &usize| careless || !table.frame.rules_out(setting);
-    let mut setting = pick_or_zero(random, (0..settings).filter(rests).filter(used));
     let count = match random.below(400) {
         0 => random.between(65_534, 65_537),
         1..=20 => 0,
         _ => random.between(1, 60),
     };
-    let mut run = Vec::with_capacity(count);
-    for _ in 0..count {
-        run.push(setting as u8);
-        setting = pick_or_zero(random, (0..inputs).map(|input| setting ^ 1 << input).filter(used));
-    }
-    if count > 0 && random.once_in(4) {
-        spoil_run(random, &mut run, settings);
+    let mut run = walk(random, table, count, careless);
+    if random.once_in(4) {
+        spoil_run(random, table, &mut run);
     }
     run
-}
-
-/// One of the settings, or 0 if there is none.
-fn pick_or_zero(random: &mut Random, settings: impl Iterator<Item = usize>) -> usize {
-    let settings: Vec<usize> = settings.collect();
-    if settings.is_empty() {
-        0
-    } else {
-        *random.pick(&settings)
-    }
-}
-
-/// Changes one setting of a run, one of the first.
-fn spoil_run(random: &mut Random, run: &mut [u8], settings: usize) {
-    let at = random.below(run.len().min(80));
-    match random.below(4) {
-        0 => run[at] = random.bits() as u8,
-        1 => run[at] ^= settings as u8,
-        2 => run[at] = run[at.saturating_sub(1)],
-        _ => run[0] = random.below(settings) as u8,
-    }
 }

@@ -8,6 +8,7 @@ mod kind_5;
 mod lent;
 mod log;
 mod read;
+mod shorten;
 mod tables;
 
 use std::fmt::Debug;
