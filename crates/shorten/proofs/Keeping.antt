@@ -1,12 +1,14 @@
 -- The second pass over the bytes: the runs that stay stand at the front, what is ahead is as it was lent, the marks tell of what is
 -- ahead, and the pass over the runs ahead goes on as the whole pass does.
 use mathlib.Core.Path.{_≡_, refl, sym, ap, ap₂, subst, _∙_}
+use mathlib.Core.Bool.{Bool, true, false}
 use mathlib.Core.List.{List, [], _∷_, _++_, append-assoc, append-nil}
 use Prim.Native.Nat.{ℕ, _+_, _-_, _≤_, _<_}
 use native.Mathlib.Nat.{add-zero, le-refl}
 use native.Mathlib.Omega.{arith}
 use lib.ListN.{length, take, drop, length-append, length-drop, drop-of-length-le}
-use lib.Seq.{take-at, drop-at, drop-drop}
+use lib.Seq.{take-at, drop-at, drop-drop, paste}
+use Rattle.verdict.proofs.Tests.{true≢false}
 use Rattle.machine.specs.Runs.{Machine, couples, Sound, visits}
 use Rattle.machine.specs.Plans.{storedRun, stored, runsIn}
 use Rattle.machine.proofs.Stored.{stored-more}
@@ -14,9 +16,23 @@ use Rattle.runs.specs.Stored.{StoredRuns}
 use Rattle.runs.proofs.Broken.{First}
 use Rattle.shorten.specs.Shortening.{Shortens}
 use Rattle.shorten.specs.Shortening.Shortens.{ends, out as goes-out, stays as goes-on}
-use Rattle.shorten.specs.inner.Passing.{noted, Reach, Tells, Turn, Kept}
+use Rattle.shorten.specs.inner.Passing.{noted, Reach, Few, Tells, Stay, Turn, Kept}
+use Rattle.shorten.specs.inner.Passing.Stay.{goes}
 use Rattle.shorten.specs.inner.Passing.Turn.{out, stays}
-use Rattle.shorten.proofs.Marks.{length-noted, tells-out, tells-stays, first-told}
+use Rattle.shorten.proofs.Marks.{length-noted, few-noted, tells-out, tells-stays, first-told}
+
+-- a turn, by what is said of whether the run stays
+turn-by : {m : Machine} {vs : List ℕ} {p e q : ℕ} {plan marks : List ℕ} {b : Bool} {marks′ : List ℕ} → Stay m vs e (length plan) marks b marks′
+    → (b ≡ false → Turn m vs p e q plan marks 0 plan marks′) × (b ≡ true → Turn m vs p e q plan marks (e - p) (paste plan q (drop p plan) (e - p)) marks′)
+turn-by (goes a) = (λ _. out a, λ f. absurd (true≢false (sym f)))
+turn-by (Stay.stays n) = (λ f. absurd (true≢false f), λ _. stays n)
+
+module _ {m : Machine} {vs : List ℕ} {p e q : ℕ} {plan marks : List ℕ} {b : Bool} {marks′ : List ℕ} (s : Stay m vs e (length plan) marks b marks′) where
+  pub turn-out : b ≡ false → Turn m vs p e q plan marks 0 plan marks′
+  turn-out = turn-by s .0
+
+  pub turn-stays : b ≡ true → Turn m vs p e q plan marks (e - p) (paste plan q (drop p plan) (e - p)) marks′
+  turn-stays = turn-by s .1
 
 pub record Keeping (m : Machine) (plan₀ : List ℕ) (n p q : ℕ) (plan marks : List ℕ) : Type 0 where
   pub kept : List (List ℕ)
@@ -26,12 +42,13 @@ pub record Keeping (m : Machine) (plan₀ : List ℕ) (n p q : ℕ) (plan marks 
   pub is : plan ≡ stored kept ++ drop q plan₀
   pub as-long : length marks ≡ n
   pub room : couples m ≤ n
+  pub few : Few (length plan₀) marks
   pub ahead : StoredRuns m (drop p plan₀)
   pub tells : Tells m p kept (runsIn (drop p plan₀)) marks
   pub goes : (left : List (List ℕ)) → Shortens m kept (runsIn (drop p plan₀)) left → Shortens m [] (runsIn plan₀) (kept ++ left)
 
-pub keeping-start : {m : Machine} {plan marks : List ℕ} → couples m ≤ length marks → StoredRuns m plan → Tells m 0 [] (runsIn plan) marks → Keeping m plan (length marks) 0 0 plan marks
-keeping-start room s t = record { kept = []; within = omega arith; low = le-refl 0; count = refl; is = refl; as-long = refl; room = room; ahead = s; tells = t; goes = λ left x. x }
+pub keeping-start : {m : Machine} {plan marks : List ℕ} → couples m ≤ length marks → StoredRuns m plan → Tells m 0 [] (runsIn plan) marks → Few (length plan) marks → Keeping m plan (length marks) 0 0 plan marks
+keeping-start room s t few = record { kept = []; within = omega arith; low = le-refl 0; count = refl; is = refl; as-long = refl; room = room; few = few; ahead = s; tells = t; goes = λ left x. x }
 
 module _ {m : Machine} {plan₀ : List ℕ} {n p q : ℕ} {plan marks : List ℕ} (k : Keeping m plan₀ n p q plan marks) where
   pub same-length : length plan ≡ length plan₀
@@ -82,6 +99,7 @@ module _ {m : Machine} {plan₀ : List ℕ} {n p q : ℕ} {plan marks : List ℕ
       is = k .is ∙ ap (λ (j : ℕ). stored (k .kept) ++ drop j plan₀) (sym (add-zero q));
       as-long = k .as-long;
       room = k .room;
+      few = k .few;
       ahead = lent .behind;
       tells = subst (λ j. Tells m j (k .kept) (runsIn (drop e plan₀)) marks) (sym (f .at .ends)) (tells-out m vs told);
       goes = λ left x. goes-with (goes-out (first-told m vs told ok (f .run) .0 (subst (λ j. Reach (visits m vs) j marks) (f .at .ends) a)) x);
@@ -94,6 +112,7 @@ module _ {m : Machine} {plan₀ : List ℕ} {n p q : ℕ} {plan marks : List ℕ
       is = ap₂ (λ (x y : List ℕ). x ++ y) (ap₂ (λ (x y : List ℕ). x ++ y) front bytes ∙ sym (stored-more (k .kept) vs)) (behind (q + (e - p)) (omega arith));
       as-long = length-noted (visits m vs) (length plan) marks ∙ k .as-long;
       room = k .room;
+      few = few-noted (visits m vs) (k .few) (omega (arith, same-length));
       ahead = lent .behind;
       tells = subst (λ j. Tells m j (k .kept ++ (vs ∷ [])) (runsIn (drop e plan₀)) (noted (visits m vs) (length plan) marks)) (sym (f .at .ends)) (tells-stays m vs told (length plan) (rw (k .as-long) (k .room)) fits);
       goes = λ left x. subst (Shortens m [] (runsIn plan₀)) (sym (append-assoc (k .kept) (vs ∷ []) left))

@@ -6,16 +6,16 @@ use mathlib.Core.List.{List, [], _∷_, _++_}
 use Prim.Native.Nat.{ℕ, _+_, _≤_, _<_}
 use native.Mathlib.Omega.{arith}
 use lib.ListN.{length, getD, set, length-set, length-append}
-use lib.Seq.{getD-set-same, getD-set-other, lt-length-set}
+use lib.Seq.{getD-set-same, getD-set-other, set-out, lt-length-set}
 use Rattle.machine.specs.Lists.{In}
 use Rattle.machine.specs.Runs.{Machine, couples, Sound, Run, visits}
 use Rattle.machine.specs.Plans.{VisitedBy, storedRun, stored}
-use Rattle.machine.proofs.Order.{equal-or}
+use Rattle.machine.proofs.Order.{below-or, equal-or}
 use Rattle.machine.proofs.Members.{in-front, in-back, in-either}
 use Rattle.machine.proofs.Exists.{marked-below}
 use Rattle.machine.proofs.Stored.{stored-append}
 use Rattle.shorten.specs.Shortening.{Superfluous}
-use Rattle.shorten.specs.inner.Passing.{noted, Reach, Tells}
+use Rattle.shorten.specs.inner.Passing.{noted, Reach, Few, Tells}
 
 -- what marking couples leaves at one of them
 abbrev NotedAt : List ℕ → ℕ → ℕ → ℕ → ℕ → Type 0
@@ -33,6 +33,19 @@ noted-at (d ∷ cs) x marks c h = by (noted-at cs x (set marks d x) c (lt-length
 pub length-noted : (cs : List ℕ) (x : ℕ) (marks : List ℕ) → length (noted cs x marks) ≡ length marks
 length-noted [] x marks = refl
 length-noted (c ∷ cs) x marks = length-noted cs x (set marks c x) ∙ length-set marks c x
+
+few-set : {x y : ℕ} {marks : List ℕ} (c : ℕ) → Few x marks → y ≤ x → Few x (set marks c y)
+few-set {x} {y} {marks} c f h = record {
+  each = λ d. ⊎-elim
+      (λ e. rw e (⊎-elim (λ (l : c < length marks). rw (getD-set-same marks c y 0 l) h) (λ l. rw (set-out marks c y l) (f .each c)) (below-or c (length marks))))
+      (λ n. rw (getD-set-other marks c d y 0 n) (f .each d))
+      (equal-or d c);
+}
+
+-- marks stay few
+pub few-noted : {x y : ℕ} {marks : List ℕ} (cs : List ℕ) → Few x marks → y ≤ x → Few x (noted cs y marks)
+few-noted [] f h = f
+few-noted (c ∷ cs) f h = few-noted cs (few-set c f h) h
 
 module _ (m : Machine) where
   -- the first pass: each run from byte p on marks its couples with the byte at which it starts

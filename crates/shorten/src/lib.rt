@@ -4,13 +4,12 @@ ghost use mathlib.Core.List.{[]};
 ghost use Prim.Native.Nat.{ℕ, _+_, _≤_, _<_, _^_};
 ghost use lib.ListN.{length, getD, drop};
 ghost use lib.Seq.{paste};
-ghost use Rattle.verdict.specs.Checks.{Decides};
-ghost use Rattle.machine.specs.Runs.{machineOf, Run, visits};
+ghost use Rattle.machine.specs.Runs.{machineOf, Run, visitsFrom};
 ghost use Rattle.machine.specs.Plans.{runsIn};
 ghost use Rattle.tables.specs.inner.Fits.{Checked};
 ghost use Rattle.runs.specs.Stored.{StoredRuns};
 ghost use Rattle.shorten.specs.Shortening.{ShortenedAs};
-ghost use Rattle.shorten.specs.inner.Passing.{Ground, Changed, noted, Reach, Tells, settingsIn, Turn, Kept};
+ghost use Rattle.shorten.specs.inner.Passing.{Ground, Walkable, Changed, noted, Stops, Few, Tells, settingsIn, Stay, Turn, Kept};
 use basics::wide;
 use machine::COUPLES;
 use machine::Frame;
@@ -24,6 +23,12 @@ use verdict::Answer;
 struct Visited {
     entered: usize,
     moved: usize,
+    state: usize,
+}
+
+// So many settings of a run, and the state then.
+struct Place {
+    settings: usize,
     state: usize,
 }
 
@@ -54,29 +59,29 @@ fn mark_all(frame: Frame, table: &[u8], plan: &[u8], marks: &mut [usize])
     requires { ⌜ Ground (machineOf frame (now table)) (length (now marks)) × StoredRuns (machineOf frame (now table)) (now plan) ⌝ }
     requires { ⌜ ((c : ℕ) → getD (now marks) c 0 ≡ 0) ⌝ }
     ensures tells { λ _. ⌜ Tells (machineOf frame (now (table .entry))) 0 [] (runsIn (now (plan .entry))) (now (marks .exit)) ⌝ }
-    ensures length { λ _. ⌜ length (now (marks .exit)) ≡ length (now (marks .entry)) ⌝ }
+    ensures few { λ _. ⌜ Few (length (now (plan .entry))) (now (marks .exit)) × (length (now (marks .exit)) ≡ length (now (marks .entry))) ⌝ }
 {
     let mut at: usize = 0;
     while at < plan.len() {
         let end = run_end(plan, at);
-        mark_run(frame, table, &plan[at + 2..end], at, marks);
+        mark(frame, table, frame.initial, &plan[at + 2..end], at, marks);
         at = end;
     }
 }
 
-// Marks the couples that a run visits with x.
-fn mark_run(frame: Frame, table: &[u8], run: &[u8], x: usize, marks: &mut [usize])
-    requires { ⌜ Ground (machineOf frame (now table)) (length (now marks)) × Run (machineOf frame (now table)) (now run) ⌝ }
-    ensures { λ _. ⌜ now (marks .exit) ≡ noted (visits (machineOf frame (now (table .entry))) (now (run .entry))) x (now (marks .entry)) ⌝ }
+// Marks the couples that settings visit from state s on with x.
+fn mark(frame: Frame, table: &[u8], s: usize, run: &[u8], x: usize, marks: &mut [usize])
+    requires { ⌜ Walkable (machineOf frame (now table)) (length (now marks)) s (now run) ⌝ }
+    ensures { λ _. ⌜ now (marks .exit) ≡ noted (visitsFrom (machineOf frame (now (table .entry))) s (now (run .entry))) x (now (marks .entry)) ⌝ }
 {
-    let mut s = frame.initial;
+    let mut state = s;
     for i in 0..run.len() {
-        let visited = change(frame, table, s, setting(run, i));
+        let visited = change(frame, table, state, setting(run, i));
         let entered = visited.entered;
         let moved = visited.moved;
         marks[entered] = x;
         marks[moved] = x;
-        s = visited.state;
+        state = visited.state;
     }
 }
 
@@ -86,18 +91,18 @@ fn change(frame: Frame, table: &[u8], s: usize, w: usize) -> Visited
     ensures { λ r. ⌜ Changed (machineOf frame (now (table .entry))) s w r ⌝ }
 {
     let entered = (s << frame.inputs) + w;
-    let state = wide(table[entered]);
+    let next = wide(table[entered]);
     Visited {
         entered: entered,
-        moved: (state << frame.inputs) + w,
-        state: state,
+        moved: (next << frame.inputs) + w,
+        state: next,
     }
 }
 
 // The second pass: moves the runs that stay down in order, and answers their bytes.
 fn keep(frame: Frame, table: &[u8], plan: &mut [u8], marks: &mut [usize]) -> usize
     requires { ⌜ Ground (machineOf frame (now table)) (length (now marks)) × StoredRuns (machineOf frame (now table)) (now plan) ⌝ }
-    requires { ⌜ Tells (machineOf frame (now table)) 0 [] (runsIn (now plan)) (now marks) ⌝ }
+    requires { ⌜ Tells (machineOf frame (now table)) 0 [] (runsIn (now plan)) (now marks) × Few (length (now plan)) (now marks) ⌝ }
     ensures { λ r. ⌜ Kept (machineOf frame (now (table .entry))) (now (plan .entry)) r (now (plan .exit)) ⌝ }
 {
     let mut at: usize = 0;
@@ -110,8 +115,7 @@ fn keep(frame: Frame, table: &[u8], plan: &mut [u8], marks: &mut [usize]) -> usi
     to
 }
 
-// The run from byte `at` up to byte `end`: taken out if others still in visit all its couples, otherwise moved down to byte `to`. Answers
-// the bytes kept.
+// The run from byte `at` up to byte `end`: taken out, or moved down to byte `to`. Answers the bytes kept.
 fn keep_one(
     frame: Frame,
     table: &[u8],
@@ -122,36 +126,68 @@ fn keep_one(
     marks: &mut [usize],
 ) -> usize
     requires { ⌜ Ground (machineOf frame (now table)) (length (now marks)) × Run (machineOf frame (now table)) (settingsIn at end (now plan)) ⌝ }
-    requires { ⌜ (to ≤ at) × (at + 2 ≤ end) × (end ≤ length (now plan)) ⌝ }
+    requires { ⌜ Few (length (now plan)) (now marks) × (to ≤ at) × (at + 2 ≤ end) × (end ≤ length (now plan)) ⌝ }
     ensures { λ r. ⌜ Turn (machineOf frame (now (table .entry))) (settingsIn at end (now (plan .entry))) at end to (now (plan .entry)) (now (marks .entry)) r (now (plan .exit)) (now (marks .exit)) ⌝ }
 {
-    if elsewhere(frame, table, &plan[at + 2..end], end, marks) {
+    if !stays(frame, table, &plan[at + 2..end], end, plan.len(), marks) {
         return 0;
     }
-    mark_run(frame, table, &plan[at + 2..end], plan.len(), marks);
     move_down(plan, at, to, end - at);
     end - at
 }
 
-// Whether each couple that a run visits has a mark of at least x.
-fn elsewhere(frame: Frame, table: &[u8], run: &[u8], x: usize, marks: &[usize]) -> bool
+// Whether a run stays: not each couple that it visits has a mark that reaches its end. Its couples are then marked with the plan's length;
+// the front of the run, whose couples have such marks already, is walked once.
+fn stays(
+    frame: Frame,
+    table: &[u8],
+    run: &[u8],
+    end: usize,
+    total: usize,
+    marks: &mut [usize],
+) -> bool
     requires { ⌜ Ground (machineOf frame (now table)) (length (now marks)) × Run (machineOf frame (now table)) (now run) ⌝ }
-    ensures { λ r. ⌜ Decides (Reach (visits (machineOf frame (now (table .entry))) (now (run .entry))) x (now (marks .entry))) r ⌝ }
+    requires { ⌜ Few total (now marks) × (end ≤ total) ⌝ }
+    ensures { λ r. ⌜ Stay (machineOf frame (now (table .entry))) (now (run .entry)) end total (now (marks .entry)) r (now (marks .exit)) ⌝ }
 {
-    let mut s = frame.initial;
+    let kept = reach(frame, table, frame.initial, run, total, marks);
+    let from = kept.settings;
+    let visited = reach(frame, table, kept.state, &run[from..], end, marks);
+    if visited.settings == run.len() - from {
+        return false;
+    }
+    mark(frame, table, kept.state, &run[from..], total, marks);
+    true
+}
+
+// How far settings go from state s on while each couple that they visit has a mark of at least x.
+fn reach(frame: Frame, table: &[u8], s: usize, run: &[u8], x: usize, marks: &[usize]) -> Place
+    requires { ⌜ Walkable (machineOf frame (now table)) (length (now marks)) s (now run) ⌝ }
+    ensures { λ r. ⌜ Stops (machineOf frame (now (table .entry))) s (now (run .entry)) x (now (marks .entry)) r ⌝ }
+{
+    let mut state = s;
     for i in 0..run.len() {
-        let visited = change(frame, table, s, setting(run, i));
+        let visited = change(frame, table, state, setting(run, i));
         let entered = visited.entered;
         if marks[entered] < x {
-            return false;
+            return Place {
+                settings: i,
+                state: state,
+            };
         }
         let moved = visited.moved;
         if marks[moved] < x {
-            return false;
+            return Place {
+                settings: i,
+                state: state,
+            };
         }
-        s = visited.state;
+        state = visited.state;
     }
-    true
+    Place {
+        settings: run.len(),
+        state: state,
+    }
 }
 
 // Moves n bytes from byte `from` down to byte `to`.

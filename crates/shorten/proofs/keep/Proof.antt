@@ -17,7 +17,7 @@ abbrev μ-loop : tie.MeasureT-loop
 μ-loop frame table plan₀ marks₀ at₀ to₀ plan marks at to = length plan₀ - at
 
 loop-holds : tie.Need-loop-holds Inv-loop μ-loop
-loop-holds c = let p = c .before .before .before .pre in keeping-start (p .0 .0 .room) (p .0 .1) (p .1)
+loop-holds c = let p = c .before .before .before .pre in keeping-start (p .0 .0 .room) (p .0 .1) (p .1 .0) (p .1 .1)
 
 here : (c : tie.After-run-end Inv-loop μ-loop) → let a = c .before .before .before .before .before .before .before .args in let l = c .before .before .before .loop in
     First (machineOf (a .frame) (a .table .now)) (l .plan) (l .at) (settingsIn (l .at) (c .run-end .result) (l .plan)) (c .run-end .result)
@@ -27,7 +27,7 @@ keep-one-requires : tie.Need-keep-one-requires Inv-loop μ-loop
 keep-one-requires c κs =
     let k = c .before .before .before .before .before .loop .inv in
     let h = here (c .before .before) in
-    ((record { checked = c .before .before .before .before .before .before .before .before .before .pre .0 .0 .checked; room = rw (k .as-long) (k .room) }, h .run), (k .low, omega (arith, h .at .ends), h .at .within))
+    ((record { checked = c .before .before .before .before .before .before .before .before .before .pre .0 .0 .checked; room = rw (k .as-long) (k .room) }, h .run), (rw (same-length k) (k .few), k .low, omega (arith, h .at .ends), h .at .within))
 
 add-to : tie.Need-add-to Inv-loop μ-loop
 add-to c =

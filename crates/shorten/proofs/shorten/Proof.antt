@@ -23,7 +23,7 @@ keep-requires : tie.Need-keep-requires
 keep-requires c κs =
     let a = c .before .before .before .before .before .before .before .before .before .before .before .before .before .before .before .args in
     let m = machineOf (a .frame) (a .table .now) in
-    ((rw (c .before .before .before .mark-all .ensures .1) (ground m (a .plan .now) (c .before .before .before .before .before .before .before .before .before .before .before .before .check-table .ensures) (c .before .before .before .before .before .before .before .before .before .before .if1 .left) (c .before .before .before .before .before .before .before .before .check-plan .ensures)), split m (a .plan .now) (c .before .before .before .before .before .before .before .before .before .before .before .before .check-table .ensures) (c .before .before .before .before .before .before .before .before .before .before .if1 .left) (c .before .before .before .before .before .before .before .before .check-plan .ensures) (c .before .before .before .before .before .before .if2 .left)), c .before .before .before .mark-all .ensures .0)
+    ((rw (c .before .before .before .mark-all .ensures .1 .1) (ground m (a .plan .now) (c .before .before .before .before .before .before .before .before .before .before .before .before .check-table .ensures) (c .before .before .before .before .before .before .before .before .before .before .if1 .left) (c .before .before .before .before .before .before .before .before .check-plan .ensures)), split m (a .plan .now) (c .before .before .before .before .before .before .before .before .before .before .before .before .check-table .ensures) (c .before .before .before .before .before .before .before .before .before .before .if1 .left) (c .before .before .before .before .before .before .before .before .check-plan .ensures) (c .before .before .before .before .before .before .if2 .left)), (c .before .before .before .mark-all .ensures .0, c .before .before .before .mark-all .ensures .1 .0))
 
 returns-3 : tie.Need-returns-3
 returns-3 c = let a = c .before .before .before .before .before .before .before .before .before .before .before .before .before .before .before .before .before .before .before .args in done (machineOf (a .frame) (a .table .now)) (a .plan .now) (c .before .before .before .before .before .before .before .before .before .before .before .before .before .before .before .before .check-table .ensures) (c .before .before .before .before .before .before .before .before .before .before .before .before .before .before .if1 .left) (c .before .before .before .before .before .before .before .before .before .before .before .before .check-plan .ensures) (c .before .before .before .before .before .before .before .before .before .before .if2 .left) (c .before .before .before .keep .ensures)

@@ -1,35 +1,32 @@
--- `mark_run` walks the run: marking what is left of it ends as marking the whole run does.
+-- `mark` walks over the settings: marking what is left of them ends as marking all of them does.
 use borrow.Author.Needs.{needs}
 use native.Mathlib.Omega.{arith}
 use mathlib.Core.Path.{_≡_}
 use Prim.Native.Nat.{_-_, _<_, _^_}
 use lib.ListN.{length, length-set}
 use Rattle.machine.specs.Runs.{machineOf}
-use Rattle.machine.proofs.Stored.{setting-below}
 use Rattle.shorten.specs.inner.Passing.{Ground}
 use Rattle.shorten.proofs.Walking.{next-state, entered-inside, moved-inside, Marking, marking-start, marking-more, marking-end}
-use Rattle.shorten.proofs.mark_run.Statement.{statement}
-use Rattle.shorten.proofs.mark_run.Tie as tie
+use Rattle.shorten.proofs.mark.Statement.{statement}
+use Rattle.shorten.proofs.mark.Tie as tie
 
 abbrev Inv-loop : tie.InvT-loop
-Inv-loop frame table run x marks₀ s₀ i₀ i-end marks s i = Marking (machineOf frame table) run x marks₀ marks s i
+Inv-loop frame table s run x marks₀ state₀ i₀ i-end marks state i = Marking (machineOf frame table) s run x marks₀ marks state i
 
 abbrev μ-loop : tie.MeasureT-loop
-μ-loop frame table run x marks₀ s₀ i₀ i-end marks s i = length run - i
+μ-loop frame table s run x marks₀ state₀ i₀ i-end marks state i = length run - i
 
 loop-holds : tie.Need-loop-holds Inv-loop μ-loop
-loop-holds c = let p = c .before .before .before .pre in marking-start (p .0 .checked .sound) (p .1)
+loop-holds c = marking-start (c .before .before .before .pre .state)
 
 below : (c : tie.After-setting Inv-loop μ-loop) → c .setting .result < 2 ^ c .before .before .before .before .before .before .args .frame .inputs
-below c =
-    let a = c .before .before .before .before .before .before in
-    rw (c .setting .ensures .0) (setting-below (machineOf (a .args .frame) (a .args .table .now)) (a .args .run .now) (a .pre .1) (c .before .before .loop .i) (c .before .loop-test .taken))
+below c = rw (c .setting .ensures .0) (c .before .before .before .before .before .before .pre .below (c .before .before .loop .i) (c .before .loop-test .taken))
 
 change-requires : tie.Need-change-requires Inv-loop μ-loop
-change-requires c κs = (c .before .before .before .before .before .before .pre .0 .checked, c .before .before .loop .inv .state, below c)
+change-requires c κs = (c .before .before .before .before .before .before .pre .ground .checked, c .before .before .loop .inv .state, below c)
 
 ground : (c : tie.After-change Inv-loop μ-loop) → let a = c .before .before .before .before .before .before .before .args in Ground (machineOf (a .frame) (a .table .now)) (length (c .before .before .before .loop .marks))
-ground c = rw (c .before .before .before .loop .inv .as-long) (c .before .before .before .before .before .before .before .pre .0)
+ground c = rw (c .before .before .before .loop .inv .as-long) (c .before .before .before .before .before .before .before .pre .ground)
 
 entered : (c : tie.After-change Inv-loop μ-loop) → c .change .result .entered < length (c .before .before .before .loop .marks)
 entered c = entered-inside (ground c) (c .before .before .before .loop .inv .state) (below (c .before)) (c .change .ensures)
@@ -47,8 +44,8 @@ returns c =
     let e : c .before .loop .i ≡ length (c .before .before .before .before .before .args .run .now) = omega (arith, c .before .loop .inv .within) in
     marking-end (c .before .loop .inv) e
 
-pub mark-run-spec : {M : Type 1} → statement M
-mark-run-spec =
+pub mark-spec : {M : Type 1} → statement M
+mark-spec =
     tie.close
     (tie.spec
     Inv-loop
