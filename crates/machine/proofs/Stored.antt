@@ -1,31 +1,46 @@
 -- Stored runs split back in one way only: by induction on the runs, each count telling where its run ends.
-use mathlib.Core.Path.{_≡_, refl, sym, ap, _∙_}
+use mathlib.Core.Path.{_≡_, refl, sym, ap, ap₂, _∙_}
 use mathlib.Core.Logic.{_⊎_, ⊎-elim}
 use mathlib.Core.List.{List, [], _∷_, _++_, append-assoc, append-nil}
-use Prim.Native.Nat.{ℕ, zero, suc, _+_, _≤_, _<_, zero-le}
+use Prim.Native.Nat.{ℕ, zero, suc, _+_, _*_, _/_, _%_, _≤_, _<_}
 use native.Mathlib.Nat.{div-add-mod'}
 use native.Mathlib.Omega.{arith}
-use lib.ListN.{length, getD, length-append}
+use lib.ListN.{length, getD, take, drop, length-drop}
 use lib.Seq.{take-append-seam, drop-append-seam}
 use Rattle.machine.specs.Lists.{In}
 use Rattle.machine.specs.Runs.{Machine, size, Goes, Run}
 use Rattle.machine.specs.Plans.{storedRun, stored, split, runsIn}
 use Rattle.machine.proofs.Members.{in-at}
 
-split-enough : (k : ℕ) (plan : List (List ℕ)) → length plan ≤ k → split k (stored plan) ≡ plan
-split-enough zero [] l = refl
-split-enough (suc k) [] l = refl
-split-enough zero (vs ∷ plan) l = absurd (omega arith)
-split-enough (suc k) (vs ∷ plan) l =
-    rw (div-add-mod' (length vs) 256, take-append-seam vs (stored plan), drop-append-seam vs (stored plan), split-enough k plan (omega arith))
+-- to look for more runs than the bytes hold makes no difference
+split-same : (k j : ℕ) (bs : List ℕ) → length bs ≤ k → length bs ≤ j → split k bs ≡ split j bs
+split-same zero zero bs h g = refl
+split-same zero (suc j) [] h g = refl
+split-same zero (suc j) (b ∷ bs) h g = absurd (omega arith)
+split-same (suc k) zero [] h g = refl
+split-same (suc k) zero (b ∷ bs) h g = absurd (omega arith)
+split-same (suc k) (suc j) [] h g = refl
+split-same (suc k) (suc j) (low ∷ []) h g = refl
+split-same (suc k) (suc j) (low ∷ high ∷ bs) h g =
+    let n = high * 256 + low in
+    ap (λ (l : List (List ℕ)). take n bs ∷ l) (split-same k j (drop n bs) (rw length-drop (omega arith)) (rw length-drop (omega arith)))
 
-stored-long : (plan : List (List ℕ)) → length plan ≤ length (stored plan)
-stored-long [] = zero-le
-stored-long (vs ∷ plan) = rw length-append (omega (arith, stored-long plan))
+-- the first run, and those behind it
+pub runs-first : (low high : ℕ) (bs : List ℕ) → runsIn (low ∷ high ∷ bs) ≡ take (high * 256 + low) bs ∷ runsIn (drop (high * 256 + low) bs)
+runs-first low high bs =
+    let n = high * 256 + low in
+    ap (λ (l : List (List ℕ)). take n bs ∷ l) (split-same (suc (length bs)) (length (drop n bs)) (drop n bs) (rw length-drop (omega arith)) (omega arith))
+
+-- stored settings in front of other bytes are the first of the runs that these hold
+pub runs-stored : (vs after : List ℕ) → runsIn (storedRun vs ++ after) ≡ vs ∷ runsIn after
+runs-stored vs after =
+    let n : length vs / 256 * 256 + length vs % 256 ≡ length vs = div-add-mod' (length vs) 256 in
+    runs-first (length vs % 256) (length vs / 256) (vs ++ after) ∙ rw n (ap₂ (λ (run rest : List ℕ). run ∷ runsIn rest) (take-append-seam vs after) (drop-append-seam vs after))
 
 -- stored bytes split back into the same runs
 pub split-stored : (plan : List (List ℕ)) → runsIn (stored plan) ≡ plan
-split-stored plan = split-enough (length (stored plan)) plan (stored-long plan)
+split-stored [] = refl
+split-stored (vs ∷ plan) = runs-stored vs (stored plan) ∙ ap (λ (runs : List (List ℕ)). vs ∷ runs) (split-stored plan)
 
 -- and into no others
 pub stored-once : (p q : List (List ℕ)) → stored p ≡ stored q → p ≡ q

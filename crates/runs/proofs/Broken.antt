@@ -1,14 +1,13 @@
 -- Refusal 19: the bytes behind a stored run are broken where the whole is, further on; so a search that goes from run to run finds the
 -- first broken byte, and no byte is broken exactly where the bytes are stored runs.
-use mathlib.Core.Path.{_≡_, refl, sym, ap, ap₂, subst, _∙_}
+use mathlib.Core.Path.{_≡_, refl, sym, ap, subst, _∙_}
 use mathlib.Core.Logic.{_⊎_, _↔_, ⊎-elim, inl, inr}
 use mathlib.Core.List.{List, [], _∷_, _++_, append-assoc}
-use Prim.Native.Nat.{ℕ, zero, suc, _+_, _*_, _-_, _/_, _%_, _≤_, _<_}
+use Prim.Native.Nat.{ℕ, zero, suc, _+_, _-_, _≤_, _<_}
 use native.Mathlib.Omega.{arith}
-use native.Mathlib.Nat.{add-zero, zero-add, div-add-mod'}
-use lib.ListN.{length, getD, take, drop, length-append, length-drop, take-append-drop}
-use lib.Seq.{take-at, drop-at, take-append-seam, drop-append-seam, take-append-add, drop-append-add, length-take-le, getD-drop, drop-drop}
-use lib.Arith.{digits-div, digits-mod}
+use native.Mathlib.Nat.{add-zero, zero-add}
+use lib.ListN.{length, take, drop, length-append, length-drop, take-append-drop}
+use lib.Seq.{take-append-seam, drop-append-seam, take-append-add, drop-append-add, length-take-le}
 use Rattle.verdict.specs.Checks.{None, Finds, at, nothing}
 use Rattle.verdict.specs.declared.Found.{Found}
 use Rattle.verdict.specs.declared.Found.the-variants.{At, Nothing}
@@ -16,80 +15,12 @@ use Rattle.machine.specs.Lists.{In}
 use Rattle.machine.specs.Runs.{Machine, Run, Fault}
 use Rattle.machine.specs.Plans.{storedRun, stored, runsIn}
 use Rattle.machine.proofs.Order.{below-or}
-use Rattle.machine.proofs.Stored.{split-stored}
+use Rattle.machine.proofs.Stored.{runs-stored}
 use Rattle.machine.proofs.Faults.{run-faultless}
-use Rattle.runs.specs.Stored.{settingsAt, storedEnd, StoredRuns, Broken}
-use Rattle.runs.specs.inner.Splits.{Whole, Counted, StoredAt, Next}
-use Rattle.runs.specs.inner.Splits.Counted.{whole, cut}
+use Rattle.runs.specs.Stored.{settingsAt, StoredRuns, Broken}
+use Rattle.runs.specs.inner.Splits.{Whole, StoredAt, Next}
 use Rattle.runs.specs.inner.Splits.Next.{run, none}
-use Rattle.runs.proofs.Split.{runs-first, begins}
-
--- settings stored in front of other bytes are told by the bytes
-pub stored-front : (vs ws a b : List ℕ) → storedRun vs ++ a ≡ storedRun ws ++ b → (vs ≡ ws) × (a ≡ b)
-stored-front vs ws a b e =
-    let low : length vs % 256 ≡ length ws % 256 = ap (λ (l : List ℕ). getD l 0 0) e in
-    let high : length vs / 256 ≡ length ws / 256 = ap (λ (l : List ℕ). getD l 1 0) e in
-    let n : length ws ≡ length vs = omega arith in
-    let rest : vs ++ a ≡ ws ++ b = ap (drop 2) e in
-    (sym (take-append-seam vs a) ∙ ap (take (length vs)) rest ∙ take-at ws b (length vs) n, sym (drop-append-seam vs a) ∙ ap (drop (length vs)) rest ∙ drop-at ws b (length vs) n)
-
--- stored settings in front of other bytes are the first of the runs that these hold
-runs-stored : (vs after : List ℕ) → runsIn (storedRun vs ++ after) ≡ vs ∷ runsIn after
-runs-stored vs after =
-    let n : length vs / 256 * 256 + length vs % 256 ≡ length vs = div-add-mod' (length vs) 256 in
-    runs-first (length vs % 256) (length vs / 256) (vs ++ after) ∙ rw n (ap₂ (λ (run rest : List ℕ). run ∷ runsIn rest) (take-append-seam vs after) (drop-append-seam vs after))
-
--- the count at a byte tells the settings that are stored there
-pub count-is : (bytes : List ℕ) (p : ℕ) (vs after : List ℕ) → drop p bytes ≡ storedRun vs ++ after → settingsAt bytes p ≡ length vs
-count-is bytes p vs after e =
-    let low : getD bytes p 0 ≡ length vs % 256 = ap (λ (k : ℕ). getD bytes k 0) (sym (add-zero p)) ∙ sym (getD-drop p bytes 0 0) ∙ ap (λ (l : List ℕ). getD l 0 0) e in
-    let high : getD bytes (p + 1) 0 ≡ length vs / 256 = sym (getD-drop p bytes 1 0) ∙ ap (λ (l : List ℕ). getD l 1 0) e in
-    rw (low, high) (div-add-mod' (length vs) 256)
-
-pub whole-at : {bytes : List ℕ} {p e : ℕ} → Whole bytes p e → StoredAt bytes p (take (e - (p + 2)) (drop (p + 2) bytes)) e
-whole-at {bytes} {p} {e} w =
-    let end = w .ends in
-    let fits = w .within in
-    let byte = w .low-byte in
-    let n = e - (p + 2) in
-    let rest = drop (p + 2) bytes in
-    let is : n ≡ settingsAt bytes p = omega arith in
-    let long : length (take n rest) ≡ settingsAt bytes p = length-take-le n rest (rw length-drop (omega arith)) ∙ is in
-    let low : length (take n rest) % 256 ≡ getD bytes p 0 = ap (λ (x : ℕ). x % 256) long ∙ digits-mod (getD bytes (p + 1) 0) byte in
-    let high : length (take n rest) / 256 ≡ getD bytes (p + 1) 0 = ap (λ (x : ℕ). x / 256) long ∙ digits-div (getD bytes (p + 1) 0) byte in
-    let ahead : p + 2 + n ≡ e = omega arith in
-    let behind : take n rest ++ drop e bytes ≡ rest = ap (λ (l : List ℕ). take n rest ++ l) (ap (λ (k : ℕ). drop k bytes) (sym ahead) ∙ sym (drop-drop n (p + 2) bytes)) ∙ take-append-drop n rest in
-    record { is = begins bytes p (omega arith) ∙ rw (low, high, behind); ends = omega (arith, long); within = fits }
-
--- what a search for the end of a run found
-pub counted-whole : {bytes : List ℕ} {p e : ℕ} {x : Found} → Counted bytes p x → x ≡ At e → Whole bytes p e
-counted-whole {bytes} {p} {e} t f = by (subst (Counted bytes p) f t)
-  where
-    by : Counted bytes p (At e) → Whole bytes p e
-    by (whole w) = w
-
-pub counted-cut : {bytes : List ℕ} {p : ℕ} {x : Found} → Counted bytes p x → x ≡ Nothing → length bytes < p + 2 + settingsAt bytes p
-counted-cut {bytes} {p} t f = by (subst (Counted bytes p) f t)
-  where
-    by : Counted bytes p Nothing → length bytes < p + 2 + settingsAt bytes p
-    by (cut l) = l
-
--- bytes that end before the run that is counted there store no settings
-cut-none : (bytes : List ℕ) (p : ℕ) → length bytes < p + 2 + settingsAt bytes p → (vs after : List ℕ) → drop p bytes ≡ storedRun vs ++ after → ⊥
-cut-none bytes p l vs after e = omega (arith, l, count-is bytes p vs after e, length-drop p bytes, ap length e ∙ length-append (storedRun vs) after)
-
--- settings are stored at the front of bytes, or none are
-front-or : (bytes : List ℕ) → ((vs : List ℕ) × (after : List ℕ) × (bytes ≡ storedRun vs ++ after)) ⊎ ((vs after : List ℕ) → bytes ≡ storedRun vs ++ after → ⊥)
-front-or bytes = by (below-or (getD bytes 0 0) 256) (below-or (length bytes) e)
-  where
-    e : ℕ
-    e = 0 + 2 + settingsAt bytes 0
-
-    by : (getD bytes 0 0 < 256) ⊎ (256 ≤ getD bytes 0 0) → (length bytes < e) ⊎ (e ≤ length bytes)
-        → ((vs : List ℕ) × (after : List ℕ) × (bytes ≡ storedRun vs ++ after)) ⊎ ((vs after : List ℕ) → bytes ≡ storedRun vs ++ after → ⊥)
-    by (inr h) l = inr (λ vs after f. let low = ap (λ (l : List ℕ). getD l 0 0) f in omega arith)
-    by (inl h) (inl l) = inr (cut-none bytes 0 l)
-    by (inl h) (inr l) = inl (take (e - 2) (drop 2 bytes), drop e bytes, whole-at {p = 0} (record { low-byte = h; ends = refl; within = l }) .is)
+use Rattle.runs.proofs.Front.{stored-front, whole-at, cut-none, front-or}
 
 module _ (m : Machine) where
   -- a broken byte of what stands behind stored settings
@@ -225,32 +156,3 @@ module _ {m : Machine} {bytes : List ℕ} {p : ℕ} (x : Past m bytes p) where
 
   pub past-end : length bytes ≤ p → Finds (Broken m bytes) Nothing
   past-end l = nothing (record { nowhere = λ q b. let (r, e, c) = x .ahead q b in omega (arith, c .inside, length-drop p bytes) })
-
--- the run vs is the first of the stored runs from byte p on, and ends at byte e
-pub record First (m : Machine) (bytes : List ℕ) (p : ℕ) (vs : List ℕ) (e : ℕ) : Type 0 where
-  pub run : Run m vs
-  pub at : StoredAt bytes p vs e
-  pub first : runsIn (drop p bytes) ≡ vs ∷ runsIn (drop e bytes)
-  pub behind : StoredRuns m (drop e bytes)
-
-pub first-run : {m : Machine} {bytes : List ℕ} {p e : ℕ} → StoredRuns m (drop p bytes) → p < length bytes → e ≡ storedEnd bytes p → First m bytes p (take (e - (p + 2)) (drop (p + 2) bytes)) e
-first-run {m} {bytes} {p} {e} s l f = by (runsIn (drop p bytes)) refl
-  where
-    by : (runs : List (List ℕ)) → runsIn (drop p bytes) ≡ runs → First m bytes p (take (e - (p + 2)) (drop (p + 2) bytes)) e
-    by [] g = absurd (omega (arith, length-drop p bytes, ap length (sym (s .splits) ∙ ap stored g)))
-    by (vs ∷ later) g =
-        let is : drop p bytes ≡ storedRun vs ++ stored later = sym (s .splits) ∙ ap stored g in
-        let n = count-is bytes p vs (stored later) is in
-        let long = ap length is ∙ length-append (storedRun vs) (stored later) in
-        let ends : e ≡ p + length (storedRun vs) = omega (arith, length-drop p bytes) in
-        let after : drop e bytes ≡ stored later = ap (λ (k : ℕ). drop k bytes) ends ∙ sym (drop-drop (length (storedRun vs)) p bytes) ∙ ap (drop (length (storedRun vs))) is ∙ drop-append-seam (storedRun vs) (stored later) in
-        let count : e - (p + 2) ≡ length vs = omega arith in
-        let part : take (e - (p + 2)) (drop (p + 2) bytes) ≡ vs =
-        ap₂ (λ (k : ℕ) (a : List ℕ). take k a) count (sym (drop-drop 2 p bytes) ∙ ap (drop 2) is) ∙ take-append-seam vs (stored later) in
-        let rest : runsIn (drop e bytes) ≡ later = ap runsIn after ∙ split-stored later in
-        subst (λ us. First m bytes p us e) (sym part) (record {
-          run = s .runs vs (subst (In vs) (sym g) (inl refl));
-          at = record { is = is ∙ ap (λ (a : List ℕ). storedRun vs ++ a) (sym after); ends = ends; within = omega (arith, length-drop p bytes) };
-          first = g ∙ ap (λ (r : List (List ℕ)). vs ∷ r) (sym rest);
-          behind = record { runs = λ us i. s .runs us (subst (In us) (sym g) (inr (subst (In us) rest i))); splits = ap stored rest ∙ sym after };
-        })

@@ -1,39 +1,21 @@
 -- The runs that stored bytes hold, one after the other: the first ends where `storedEnd` says, and the others stand behind it.
--- Reading more runs than the bytes hold makes no difference.
 use mathlib.Core.Path.{_≡_, refl, sym, ap, ap₂, _∙_}
 use mathlib.Core.List.{List, [], _∷_}
 use mathlib.Core.Logic.{⊎-elim}
-use Prim.Native.Nat.{ℕ, zero, suc, _+_, _-_, _*_, _≤_, _<_, min}
+use Prim.Native.Nat.{ℕ, suc, _+_, _-_, _≤_, _<_, min}
 use native.Mathlib.Nat.{eq-or-lt-of-le}
 use native.Mathlib.Omega.{arith}
 use lib.ListN.{length, getD, take, drop, length-drop, drop-of-length-le}
 use lib.Seq.{drop-cons, drop-drop, take-all}
-use Rattle.machine.specs.Plans.{split, runsIn}
+use Rattle.machine.specs.Plans.{runsIn}
+use Rattle.machine.proofs.Stored.{runs-first}
 use Rattle.runs.specs.Stored.{settingsAt, storedEnd}
-
-split-same : (k j : ℕ) (bs : List ℕ) → length bs ≤ k → length bs ≤ j → split k bs ≡ split j bs
-split-same zero zero bs h g = refl
-split-same zero (suc j) [] h g = refl
-split-same zero (suc j) (b ∷ bs) h g = absurd (omega arith)
-split-same (suc k) zero [] h g = refl
-split-same (suc k) zero (b ∷ bs) h g = absurd (omega arith)
-split-same (suc k) (suc j) [] h g = refl
-split-same (suc k) (suc j) (low ∷ []) h g = refl
-split-same (suc k) (suc j) (low ∷ high ∷ bs) h g =
-    let n = high * 256 + low in
-    ap (λ (l : List (List ℕ)). take n bs ∷ l) (split-same k j (drop n bs) (rw length-drop (omega arith)) (rw length-drop (omega arith)))
 
 -- no run stands in fewer than two bytes
 pub runs-none : (bs : List ℕ) → length bs < 2 → runsIn bs ≡ []
 runs-none [] h = refl
 runs-none (b ∷ []) h = refl
 runs-none (b ∷ d ∷ bs) h = absurd (omega arith)
-
--- the first run, and those behind it
-pub runs-first : (low high : ℕ) (bs : List ℕ) → runsIn (low ∷ high ∷ bs) ≡ take (high * 256 + low) bs ∷ runsIn (drop (high * 256 + low) bs)
-runs-first low high bs =
-    let n = high * 256 + low in
-    ap (λ (l : List (List ℕ)). take n bs ∷ l) (split-same (suc (length bs)) (length (drop n bs)) (drop n bs) (rw length-drop (omega arith)) (omega arith))
 
 -- a list cut at n, or at its end where it is shorter
 cut : (n k : ℕ) (l : List ℕ) → k ≡ min n (length l) → (take n l ≡ take k l) × (drop n l ≡ drop k l)

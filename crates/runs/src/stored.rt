@@ -1,6 +1,6 @@
 // Runs in a stored plan: one setting of a run, where a run ends, and whether bytes are stored runs: refusal 19.
 ghost use mathlib.Core.Path.{_≡_};
-ghost use Prim.Native.Nat.{_≤_, _<_};
+ghost use Prim.Native.Nat.{_<_};
 ghost use lib.ListN.{length, getD};
 ghost use Rattle.verdict.specs.Checks.{Finds, Passed, Judged};
 ghost use Rattle.machine.specs.Limits.{mostSettings};

@@ -3,7 +3,7 @@
 use mathlib.Core.Path.{_≡_, refl, sym, ap, ap₂, subst, _∙_}
 use mathlib.Core.Bool.{Bool, true, false}
 use mathlib.Core.List.{List, [], _∷_, _++_, append-assoc, append-nil}
-use Prim.Native.Nat.{ℕ, _+_, _-_, _≤_, _<_}
+use Prim.Native.Nat.{ℕ, _+_, _-_, _≤_}
 use native.Mathlib.Nat.{add-zero, le-refl}
 use native.Mathlib.Omega.{arith}
 use lib.ListN.{length, take, drop, length-append, length-drop, drop-of-length-le}
@@ -13,7 +13,7 @@ use Rattle.machine.specs.Runs.{Machine, couples, Sound, visits}
 use Rattle.machine.specs.Plans.{storedRun, stored, runsIn}
 use Rattle.machine.proofs.Stored.{stored-more}
 use Rattle.runs.specs.Stored.{StoredRuns}
-use Rattle.runs.proofs.Broken.{First}
+use Rattle.runs.proofs.Front.{First}
 use Rattle.shorten.specs.Shortening.{Shortens}
 use Rattle.shorten.specs.Shortening.Shortens.{ends, out as goes-out, stays as goes-on}
 use Rattle.shorten.specs.inner.Passing.{noted, Reach, Few, Tells, Stay, Turn, Kept}

@@ -1,6 +1,6 @@
 -- The first pass over the bytes: marking the runs ahead ends as marking all of them does, and then the marks tell.
 use mathlib.Core.Path.{_≡_, refl, sym, ap, ap₂, subst, _∙_}
-use mathlib.Core.List.{List, [], _∷_}
+use mathlib.Core.List.{List, []}
 use Prim.Native.Nat.{ℕ, _≤_}
 use native.Mathlib.Omega.{arith}
 use lib.ListN.{length, getD, drop}
@@ -8,7 +8,7 @@ use lib.Seq.{drop-length}
 use Rattle.machine.specs.Runs.{Machine, couples, visitsFrom, visits}
 use Rattle.machine.specs.Plans.{runsIn}
 use Rattle.runs.specs.Stored.{StoredRuns}
-use Rattle.runs.proofs.Broken.{First}
+use Rattle.runs.proofs.Front.{First}
 use Rattle.shorten.specs.inner.Passing.{noted, Few, Tells}
 use Rattle.shorten.proofs.Marks.{length-noted, few-noted, notedAll, all-tells}
 use Rattle.shorten.proofs.Walking.{noted-run}

@@ -3,14 +3,14 @@
 use mathlib.Core.Path.{_≡_, refl, sym, ap, subst, _∙_}
 use mathlib.Core.Logic.{_↔_, ⊎-elim, inl, inr}
 use mathlib.Core.List.{List, [], _∷_, _++_, append-assoc, append-nil}
-use Prim.Native.Nat.{ℕ, suc, _+_, _-_, _≤_, _<_}
+use Prim.Native.Nat.{ℕ, _+_, _-_, _≤_, _<_}
 use native.Mathlib.Numerals.{add-one}
 use native.Mathlib.Omega.{arith}
 use lib.ListN.{length, getD, set, take, drop, length-set, length-drop}
 use lib.Seq.{take-all, drop-cons, drop-length, getD-drop, set-set, set-getD}
 use lib.Arith.{digits-lt}
 use Rattle.machine.specs.Lists.{In}
-use Rattle.machine.specs.Runs.{Machine, size, couple, move, Run, visitsFrom, visits}
+use Rattle.machine.specs.Runs.{Machine, size, couple, Run, visitsFrom, visits}
 use Rattle.machine.proofs.Couples.{moves}
 use Rattle.machine.proofs.Members.{in-back, in-either}
 use Rattle.machine.proofs.Stored.{setting-below}

@@ -2,7 +2,7 @@
 use borrow.Author.Needs.{needs}
 use native.Mathlib.Omega.{arith}
 use mathlib.Core.Path.{_≡_, ap, _∙_}
-use Prim.Native.Nat.{ℕ, _+_, _*_, _%_, _^_, _<_}
+use Prim.Native.Nat.{ℕ, _+_, _*_, _^_, _<_}
 use Rattle.machine.specs.Runs.{machineOf, move}
 use Rattle.machine.proofs.Couples.{moves}
 use Rattle.tables.proofs.Gate.{shifted, couple-inside, couple-move}

@@ -1,6 +1,5 @@
 -- `shorten` judges the table and the plan in turn, and on success both passes go over the bytes.
 use borrow.Author.Needs.{needs}
-use lib.ListN.{length-replicate}
 use Rattle.machine.specs.Limits.{mostCouples}
 use Rattle.machine.specs.Runs.{machineOf}
 use Rattle.shorten.proofs.Outcomes.{zeros, no-table, no-runs, ground, split, done}

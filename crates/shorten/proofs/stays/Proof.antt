@@ -1,7 +1,6 @@
 -- `stays` asks how far the run's marks are the plan's length already, and how far they reach its end from there on.
 use borrow.Author.Needs.{needs}
 use native.Mathlib.Omega.{arith}
-use mathlib.Core.Path.{_≡_, _∙_}
 use Prim.Native.Nat.{_-_}
 use lib.ListN.{length, drop, length-drop}
 use Rattle.machine.specs.Runs.{machineOf}
@@ -38,8 +37,7 @@ returns-2 : tie.Need-returns-2
 returns-2 c =
     let p = c .before .before .before .before .before .before .before .before .before .before .before .before .before .before .before .pre in
     let k = c .before .before .before .before .before .before .before .before .before .before .reach .ensures in
-    let marked = (rw rest-lent at (c .before .before .mark .ensures)) ∙ mark-rest (p .0 .1) (p .1 .0) (p .1 .1) k in
-    rw marked (stays (rest-fails (p .0 .1) (p .1 .0) (p .1 .1) k (second (c .before .before .before .before .before .before .before)) (λ e. c .before .before .before .before .before .if1 .left (rw length-drop at e))))
+    rw (c .before .before .mark .ensures, rest-lent, mark-rest (p .0 .1) (p .1 .0) (p .1 .1) k) (stays (rest-fails (p .0 .1) (p .1 .0) (p .1 .1) k (second (c .before .before .before .before .before .before .before)) (λ e. c .before .before .before .before .before .if1 .left (rw length-drop at e))))
 
 pub stays-spec : {M : Type 1} → statement M
 stays-spec =

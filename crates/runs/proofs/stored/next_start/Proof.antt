@@ -1,11 +1,10 @@
 -- `next_start` finds where the run ends that is counted at the byte, and then no fault in its settings.
 use borrow.Author.Needs.{needs}
 use native.Mathlib.Omega.{arith}
-use lib.ListN.{length}
 use Rattle.verdict.proofs.Tests.{at-least, found-none}
-use Rattle.machine.specs.Runs.{machineOf}
 use Rattle.runs.specs.inner.Splits.{Whole}
-use Rattle.runs.proofs.Broken.{counted-whole, counted-cut, next-none, next-fault, next-run}
+use Rattle.runs.proofs.Front.{counted-whole, counted-cut}
+use Rattle.runs.proofs.Broken.{next-none, next-fault, next-run}
 use Rattle.runs.proofs.stored.next_start.Statement.{statement}
 use Rattle.runs.proofs.stored.next_start.Tie as tie
 

@@ -1,7 +1,7 @@
 -- `run_end` is where the run ends, or the end of a plan that is shorter.
 use borrow.Author.Needs.{needs}
 use native.Mathlib.Omega.{arith}
-use Rattle.runs.proofs.Broken.{counted-whole, counted-cut}
+use Rattle.runs.proofs.Front.{counted-whole, counted-cut}
 use Rattle.runs.proofs.stored.run_end.Statement.{statement}
 use Rattle.runs.proofs.stored.run_end.Tie as tie
 
