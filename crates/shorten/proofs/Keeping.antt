@@ -22,17 +22,10 @@ use Rattle.shorten.specs.inner.Passing.Turn.{out, stays}
 use Rattle.shorten.proofs.Marks.{length-noted, few-noted, tells-out, tells-stays, first-told}
 
 -- a turn, by what is said of whether the run stays
-turn-by : {m : Machine} {vs : List ℕ} {p e q : ℕ} {plan marks : List ℕ} {b : Bool} {marks′ : List ℕ} → Stay m vs e (length plan) marks b marks′
+pub turn-by : {m : Machine} {vs : List ℕ} {p e q : ℕ} {plan marks : List ℕ} {b : Bool} {marks′ : List ℕ} → Stay m vs e (length plan) marks b marks′
     → (b ≡ false → Turn m vs p e q plan marks 0 plan marks′) × (b ≡ true → Turn m vs p e q plan marks (e - p) (paste plan q (drop p plan) (e - p)) marks′)
 turn-by (goes a) = (λ _. out a, λ f. absurd (true≢false (sym f)))
 turn-by (Stay.stays n) = (λ f. absurd (true≢false f), λ _. stays n)
-
-module _ {m : Machine} {vs : List ℕ} {p e q : ℕ} {plan marks : List ℕ} {b : Bool} {marks′ : List ℕ} (s : Stay m vs e (length plan) marks b marks′) where
-  pub turn-out : b ≡ false → Turn m vs p e q plan marks 0 plan marks′
-  turn-out = turn-by s .0
-
-  pub turn-stays : b ≡ true → Turn m vs p e q plan marks (e - p) (paste plan q (drop p plan) (e - p)) marks′
-  turn-stays = turn-by s .1
 
 pub record Keeping (m : Machine) (plan₀ : List ℕ) (n p q : ℕ) (plan marks : List ℕ) : Type 0 where
   pub kept : List (List ℕ)
