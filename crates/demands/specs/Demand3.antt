@@ -55,7 +55,7 @@ TellsBySheets m bytes = (words : List ℕ) → Differ m (λ s. getD words s 0) �
     → ((vs : List ℕ) → In vs (runsIn bytes) → readings b vs ≡ sheet vs)
     ↔ ((s v : ℕ) → s < m .states → v < size m → Marked m (couple m s v) → b .moves s v ≡ move m s v)
 
--- the plan answered 0, and the bytes that it left are right
+-- the plan, or the shortening of one, answered 0, and the bytes that it left are right
 pub record Planned (m : Machine) (a : Answer) (plan : List ℕ) : Type 0 where
   pub number : a .number ≡ 0
   pub right : RightPlan m (take (a .place) plan)

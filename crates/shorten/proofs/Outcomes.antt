@@ -2,8 +2,7 @@
 -- and stored runs of it.
 use mathlib.Core.Path.{_≡_, refl}
 use mathlib.Core.List.{List, [], _∷_}
-use Prim.Native.Nat.{ℕ, zero, suc}
-use lib.ListN.{getD, replicate}
+use Prim.Native.Nat.{ℕ}
 use Rattle.verdict.specs.Checks.{check, Passed, Judged}
 use Rattle.verdict.specs.declared.Answer.{Answer}
 use Rattle.verdict.proofs.Order.{judged-on, judged-stop, judged-passes, judged-within}
@@ -18,12 +17,6 @@ use Rattle.runs.specs.Stored.{StoredRuns, Broken, brokenChecks}
 use Rattle.runs.proofs.Broken.{stored-runs}
 use Rattle.shorten.specs.Shortening.{shortenChecks, ShortenedAs}
 use Rattle.shorten.specs.inner.Passing.{Ground, Kept}
-
--- fresh marks
-pub zeros : (n i : ℕ) → getD {A = ℕ} (replicate n 0) i 0 ≡ 0
-zeros zero i = refl
-zeros (suc n) zero = refl
-zeros (suc n) (suc i) = zeros n i
 
 module _ (m : Machine) (bytes : List ℕ) where
   -- a refusal writes nothing

@@ -68,8 +68,11 @@ module _ {m : Machine} {s₀ : ℕ} {run : List ℕ} {x : ℕ} {marks₀ marks :
   marking-end e = rw (e, drop-length) at (k .same)
 
 -- marks of two lists of couples
-pub reach-both : {cs ds : List ℕ} {x : ℕ} {marks : List ℕ} → Reach cs x marks → Reach ds x marks → Reach (cs ++ ds) x marks
+reach-both : {cs ds : List ℕ} {x : ℕ} {marks : List ℕ} → Reach cs x marks → Reach ds x marks → Reach (cs ++ ds) x marks
 reach-both {cs} {ds} a b = record { each = λ c i. ⊎-elim (a .each c) (b .each c) (in-either c cs ds i) }
+
+reach-back : (cs ds : List ℕ) {x : ℕ} {marks : List ℕ} → Reach (cs ++ ds) x marks → Reach ds x marks
+reach-back cs ds a = record { each = λ c i. a .each c (in-back c cs ds i) }
 
 -- Reaching: the couples in front of what is left have marks of at least x.
 pub record Reaching (m : Machine) (s₀ : ℕ) (run : List ℕ) (x : ℕ) (marks : List ℕ) (s i : ℕ) : Type 0 where
@@ -134,7 +137,7 @@ module _ {m : Machine} {run : List ℕ} {end total : ℕ} {marks : List ℕ} (r 
   as-rest : Reach (visitsFrom m (p .state) (drop (p .settings) run)) end marks ↔ Reach (visits m run) end marks
   as-rest = (
     λ x. reach-run m end marks run r .0 (subst (λ cs. Reach cs end marks) (sym (a .walked)) (reach-both {cs = a .front} (record { each = λ c i. let l = a .reach .each c i in omega arith }) x)),
-    λ x. record { each = λ c i. subst (λ cs. Reach cs end marks) (a .walked) (reach-run m end marks run r .1 x) .each c (in-back c (a .front) (visitsFrom m (p .state) (drop (p .settings) run)) i) },
+    λ x. reach-back (a .front) (visitsFrom m (p .state) (drop (p .settings) run)) (subst (λ cs. Reach cs end marks) (a .walked) (reach-run m end marks run r .1 x)),
   )
 
   -- marking the rest marks the run
@@ -153,4 +156,4 @@ module _ {m : Machine} {run : List ℕ} {end total : ℕ} {marks : List ℕ} (r 
     pub rest-fails : (q .settings ≡ length (drop (p .settings) run) → ⊥) → Reach (visits m run) end marks → ⊥
     rest-fails n x =
         let l : q .settings < length (drop (p .settings) run) = omega (arith, b .within) in
-        b .stops l (record { each = λ c i. subst (λ cs. Reach cs end marks) (b .walked) (as-rest .1 x) .each c (in-back c (b .front) (visitsFrom m (q .state) (drop (q .settings) (drop (p .settings) run))) i) })
+        b .stops l (reach-back (b .front) (visitsFrom m (q .state) (drop (q .settings) (drop (p .settings) run))) (subst (λ cs. Reach cs end marks) (b .walked) (as-rest .1 x)))

@@ -1,8 +1,9 @@
 -- `shorten` judges the table and the plan in turn, and on success both passes go over the bytes.
 use borrow.Author.Needs.{needs}
+use Rattle.sets.proofs.Members.{zeros}
 use Rattle.machine.specs.Limits.{mostCouples}
 use Rattle.machine.specs.Runs.{machineOf}
-use Rattle.shorten.proofs.Outcomes.{zeros, no-table, no-runs, ground, split, done}
+use Rattle.shorten.proofs.Outcomes.{no-table, no-runs, ground, split, done}
 use Rattle.shorten.proofs.shorten.Statement.{statement}
 use Rattle.shorten.proofs.shorten.Tie as tie
 
