@@ -5,9 +5,10 @@ use mathlib.Core.List.{List, [], _∷_, _++_, append-assoc, append-nil}
 use Prim.Native.Nat.{ℕ, suc, _+_, _-_, _≤_, _<_}
 use native.Mathlib.Omega.{arith}
 use lib.ListN.{length, set, drop, take, length-append, length-drop}
-use lib.Seq.{drop-cons, getD-set-same, drop-set-lt, drop-drop, drop-length, take-all, take-at, drop-at, lt-length-set}
+use lib.Seq.{drop-cons, getD-set-same, drop-set-lt, drop-drop, drop-length, take-at, drop-at, lt-length-set}
 use borrow.Rule.Slice.PartMut.{post-is}
 use Rattle.verdict.specs.Buffers.{Front}
+use Rattle.verdict.proofs.Fills.{rest-lent}
 use Rattle.plan.specs.inner.Writing.{Put, Ends}
 
 -- from index m on, after a write at m
@@ -22,14 +23,14 @@ set-two (x ∷ []) a b h = absurd (omega arith)
 set-two (x ∷ y ∷ l) a b h = refl
 
 -- the length of the rest that is lent
-pub rest-lent : (l : List ℕ) (a : ℕ) → length (take (length l - a) (drop a l)) ≡ length l - a
-rest-lent l a = ap length (take-all (length l - a) (drop a l) (rw length-drop (omega arith))) ∙ length-drop a l
+pub length-rest : (l : List ℕ) (a : ℕ) → length (take (length l - a) (drop a l)) ≡ length l - a
+length-rest l a = ap length (rest-lent l a) ∙ length-drop a l
 
 -- the rest of l from a on was lent and came back as w and what stood behind it: so did l
 rest-back : (l : List ℕ) (a n : ℕ) (w m : List ℕ) → a ≤ length l → m ≡ w ++ drop n (take (length l - a) (drop a l))
     → take a l ++ (m ++ drop (length l - a) (drop a l)) ≡ take a l ++ (w ++ drop (a + n) l)
 rest-back l a n w m h e =
-    rw (e, take-all (length l - a) (drop a l) (rw length-drop (omega arith)), drop-drop n a l, post-is a (length l) l h, drop-length l, append-nil)
+    rw (e, rest-lent l a, drop-drop n a l, post-is a (length l) l h, drop-length l, append-nil)
 
 -- that is the front
 pub put-front : {w : List ℕ} {n : ℕ} {a b : List ℕ} → Put w n a b → Front w a b

@@ -3,11 +3,11 @@
 use mathlib.Core.Path.{_≡_, refl, sym, ap, subst, _∙_}
 use mathlib.Core.Logic.{_↔_, ⊎-elim, inl, inr}
 use mathlib.Core.List.{List, [], _∷_, _++_, append-assoc, append-nil}
-use Prim.Native.Nat.{ℕ, _+_, _-_, _≤_, _<_}
+use Prim.Native.Nat.{ℕ, _+_, _≤_, _<_}
 use native.Mathlib.Numerals.{add-one}
 use native.Mathlib.Omega.{arith}
-use lib.ListN.{length, getD, set, take, drop, length-set, length-drop}
-use lib.Seq.{take-all, drop-cons, drop-length, getD-drop, set-set, set-getD}
+use lib.ListN.{length, getD, set, drop, length-set, length-drop}
+use lib.Seq.{drop-cons, drop-length, getD-drop, set-set, set-getD}
 use lib.Arith.{digits-lt}
 use Rattle.machine.specs.Lists.{In}
 use Rattle.machine.specs.Runs.{Machine, size, couple, Run, visitsFrom, visits}
@@ -32,9 +32,6 @@ module _ {m : Machine} {k s w : ℕ} {r : Visited} (g : Ground m k) (h : s < m .
 -- a run from its start, and the rest of settings from a state on
 pub walk-run : {m : Machine} {k : ℕ} (run : List ℕ) → Ground m k → Run m run → Walkable m k (m .initial) run
 walk-run {m} run g r = record { ground = g; state = g .checked .sound .begins; below = setting-below m run r }
-
-pub rest-lent : (i : ℕ) (run : List ℕ) → take (length run - i) (drop i run) ≡ drop i run
-rest-lent i run = take-all (length run - i) (drop i run) (rw length-drop (omega arith))
 
 pub walk-rest : {m : Machine} {k s t : ℕ} {run : List ℕ} (i : ℕ) → Walkable m k s run → t < m .states → Walkable m k t (drop i run)
 walk-rest {m} {run = run} i x h = record { ground = x .ground; state = h; below = λ j l. rw getD-drop (x .below (i + j) (omega (arith, length-drop i run))) }

@@ -3,13 +3,17 @@
 use mathlib.Core.Path.{_≡_, refl, sym, ap, subst, _∙_}
 use mathlib.Core.List.{List, _++_}
 use mathlib.Core.Logic.{_⊎_, inl, inr}
-use Prim.Native.Nat.{ℕ, _+_, _≤_, _<_}
+use Prim.Native.Nat.{ℕ, _+_, _-_, _≤_, _<_}
 use native.Mathlib.Omega.{arith}
 use native.Mathlib.Decide.{decLt, ℕ-discrete}
-use lib.ListN.{length, getD, set, drop, length-set}
-use lib.Seq.{getD-set-same, getD-set-other, ext-getD}
+use lib.ListN.{length, getD, set, take, drop, length-set, length-drop}
+use lib.Seq.{take-all, getD-set-same, getD-set-other, ext-getD}
 use borrow.Author.Count.{below-more}
 use Rattle.verdict.specs.Buffers.{Filled, Left, Front, Written}
+
+-- the rest of a list, lent on from an element to its end
+pub rest-lent : (l : List ℕ) (i : ℕ) → take (length l - i) (drop i l) ≡ drop i l
+rest-lent l i = take-all (length l - i) (drop i l) (rw length-drop (omega arith))
 
 pub filled-none : {Value : ℕ → ℕ → Type 0} (a : List ℕ) → Filled 0 Value a a
 filled-none a = record { same-length = refl; needed = λ c h. absurd (omega arith); beyond = λ c h. refl }

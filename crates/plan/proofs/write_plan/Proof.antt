@@ -4,7 +4,7 @@ use Prim.Native.Nat.{_-_, _≤_}
 use native.Mathlib.Omega.{arith}
 use lib.ListN.{length}
 use Rattle.plan.specs.inner.Writing.{piece, pieces, Put}
-use Rattle.plan.proofs.Fronts.{rest-lent, put-front, put-none, put-reach, put-more}
+use Rattle.plan.proofs.Fronts.{length-rest, put-front, put-none, put-reach, put-more}
 use Rattle.plan.proofs.Chains.{pieces-fit, pieces-more, pieces-none}
 use Rattle.plan.proofs.write_plan.Statement.{statement}
 use Rattle.plan.proofs.write_plan.Tie as tie
@@ -36,7 +36,7 @@ store-chosen-requires c κs =
       record { total = a .couples; tree = p .0; below = h },
       (
         omega (arith, p .1 .0 .ranks-long, p .1 .0 .flags-long),
-        (p .1 .0 .marked (l .c) h, rw (rest-lent (l .plan) (l .at)) (omega (arith, fit, l .inv .2 .count, p .1 .1))),
+        (p .1 .0 .marked (l .c) h, rw (length-rest (l .plan) (l .at)) (omega (arith, fit, l .inv .2 .count, p .1 .1))),
       ),
     )
 

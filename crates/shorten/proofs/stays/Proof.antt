@@ -3,10 +3,11 @@ use borrow.Author.Needs.{needs}
 use native.Mathlib.Omega.{arith}
 use Prim.Native.Nat.{_-_}
 use lib.ListN.{length, drop, length-drop}
+use Rattle.verdict.proofs.Fills.{rest-lent}
 use Rattle.machine.specs.Runs.{machineOf}
 use Rattle.shorten.specs.inner.Passing.{Walkable, Stops}
 use Rattle.shorten.specs.inner.Passing.Stay.{goes, stays}
-use Rattle.shorten.proofs.Walking.{walk-run, walk-rest, rest-lent, mark-rest, rest-reaches, rest-fails}
+use Rattle.shorten.proofs.Walking.{walk-run, walk-rest, mark-rest, rest-reaches, rest-fails}
 use Rattle.shorten.proofs.stays.Statement.{statement}
 use Rattle.shorten.proofs.stays.Tie as tie
 
