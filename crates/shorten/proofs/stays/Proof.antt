@@ -1,11 +1,13 @@
 -- `stays` asks how far the run's marks are the plan's length already, and how far they reach its end from there on.
 use borrow.Author.Needs.{needs}
 use native.Mathlib.Omega.{arith}
+use mathlib.Core.Path.{sym, subst}
+use mathlib.Core.Bool.{true}
 use Prim.Native.Nat.{_-_}
 use lib.ListN.{length, drop, length-drop}
 use Rattle.verdict.proofs.Fills.{rest-lent}
 use Rattle.machine.specs.Runs.{machineOf}
-use Rattle.shorten.specs.inner.Passing.{Walkable, Stops}
+use Rattle.shorten.specs.inner.Passing.{Walkable, Stops, Stay}
 use Rattle.shorten.specs.inner.Passing.Stay.{goes, stays}
 use Rattle.shorten.proofs.Walking.{walk-run, walk-rest, mark-rest, rest-reaches, rest-fails}
 use Rattle.shorten.proofs.stays.Statement.{statement}
@@ -36,9 +38,12 @@ mark-requires c κs = rw rest-lent (rest (c .before .before .before .before .bef
 
 returns-2 : tie.Need-returns-2
 returns-2 c =
-    let p = c .before .before .before .before .before .before .before .before .before .before .before .before .before .before .before .pre in
+    let a = c .before .before .before .before .before .before .before .before .before .before .before .before .before .before .before in
+    let p = a .pre in
     let k = c .before .before .before .before .before .before .before .before .before .before .reach .ensures in
-    rw (c .before .before .mark .ensures, rest-lent, mark-rest (p .0 .1) (p .1 .0) (p .1 .1) k) (stays (rest-fails (p .0 .1) (p .1 .0) (p .1 .1) k (second (c .before .before .before .before .before .before .before)) (λ e. c .before .before .before .before .before .if1 .left (rw length-drop at e))))
+    rw (c .before .before .mark .ensures, rest-lent)
+    (subst (Stay (machineOf (a .args .frame) (a .args .table .now)) (a .args .run .now) (a .args .end) (a .args .total) (a .args .marks .now) true) (sym (mark-rest (p .0 .1) (p .1 .0) (p .1 .1) k))
+    (stays (rest-fails (p .0 .1) (p .1 .0) (p .1 .1) k (second (c .before .before .before .before .before .before .before)) (λ e. c .before .before .before .before .before .if1 .left (rw length-drop at e)))))
 
 pub stays-spec : {M : Type 1} → statement M
 stays-spec =
