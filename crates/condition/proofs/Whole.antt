@@ -1,21 +1,29 @@
--- What `read` says of a text, from what is found from its start: a condition that ends where the text ends is the one it reads as, and
--- where one ends sooner, or none begins, the text does not read, since what stands at its front is one tree.
-use Prim.Native.Nat.{ℕ}
-use mathlib.Core.Path.{_≡_, refl, sym, ap, _∙_}
+-- What `read` says of a text, from what is found from its start: a condition that ends where the text ends is the one it reads as. Where
+-- one ends sooner, or none begins, reading stops there: no text that has one character more of it, or its end, reads, since what stands
+-- at its front is one tree.
+use Prim.Native.Nat.{ℕ, suc, _+_}
+use mathlib.Core.Path.{_≡_, sym, ap, _∙_}
 use mathlib.Core.Bool.{Bool}
 use mathlib.Core.List.{List, [], _++_, append-nil}
 use native.Mathlib.Omega.{arith}
-use lib.ListN.{length, drop, length-drop, drop-of-length-le}
+use lib.ListN.{length, take, drop, length-drop, drop-of-length-le}
+use lib.Seq.{take-append-seam}
 use Rattle.condition.specs.Grammar.{condition, text}
 use Rattle.condition.specs.Condition.{parentheses, Reads, Says}
 use Rattle.condition.specs.inner.Parts.{Reading, FoundTo, FailedAt}
 use Rattle.condition.specs.declared.Meaning.the-variants.{Is, Unread}
 use Rattle.condition.proofs.Trees.{same, nothing-ends}
+use Rattle.condition.proofs.Lists.{agree-front, ends-same, none-same}
+use Rattle.condition.proofs.Parts.{span}
+use Rattle.condition.proofs.Characters.{read-on, stops}
 use Rattle.condition.proofs.Says.{value-says, unread-says}
 
--- a text that reads is a reading up to its end
+-- a text that reads is a reading up to its end, and the other way round
 all-of : {n : ℕ} {w : List ℕ} → Reads n w → Reading condition n parentheses w []
 all-of x = record { tree = x .tree; spelt = sym (x .spelt) ∙ sym (append-nil (text (x .tree))); nested = x .nested; known = x .known }
+
+of-all : {n : ℕ} {w : List ℕ} → Reading condition n parentheses w [] → Reads n w
+of-all x = record { tree = x .tree; spelt = sym (x .spelt ∙ append-nil (text (x .tree))); nested = x .nested; known = x .known }
 
 module _ {n v : ℕ} (w : List ℕ) where
   pub whole : {b : Bool} {end : ℕ} → end ≡ length w → FoundTo condition n v parentheses w 0 b end → Says n v w (Is b)
@@ -25,12 +33,22 @@ module _ {n v : ℕ} (w : List ℕ) where
       let e′ = sym (y .spelt ∙ ap (text (y .tree) ++_) z ∙ append-nil (text (y .tree))) in
       value-says (record { tree = y .tree; spelt = e′; nested = y .nested; known = y .known }) (x .value)
 
-  pub not-whole : {b : Bool} {end : ℕ} → (end ≡ length w → ⊥) → FoundTo condition n v parentheses w 0 b end → Says n v w Unread
+  pub not-whole : {b : Bool} {end : ℕ} → (end ≡ length w → ⊥) → FoundTo condition n v parentheses w 0 b end → Says n v w (Unread (end + 1))
   not-whole {end = end} ne x =
-      unread-says (λ y.
+      let t = x .reading .tree in
+      let r = drop end w in
+      let end-is : end ≡ length (text t) = omega (arith, span x) in
+      let start : take end w ≡ text t = ap (take end) (x .reading .spelt) ∙ ap (λ (i : ℕ). take i (text t ++ r)) end-is ∙ take-append-seam (text t) r in
+      unread-says (stops (x .within)
+      (read-on (record { tree = t; spelt = sym start; nested = x .reading .nested; known = x .reading .known }))
+      (λ w′ e y.
       let z = all-of y in
-      let q = same (x .reading .tree) (z .tree) (drop end w) [] (x .ends) nothing-ends (sym (x .reading .spelt) ∙ z .spelt) .1 in
-      ne (omega (arith, simp length-drop at (ap length q), x .within)))
+      let q = agree-front (text t) w′ r end 0 (omega arith) (e ∙ ap (take (suc end)) (x .reading .spelt)) in
+      let u = same t (z .tree) (q .0) [] (ends-same condition (q .0) r (q .2) (x .ends)) nothing-ends (sym (q .1) ∙ z .spelt) .1 in
+      ne (omega (arith, simp length-drop at (ap length (none-same r (sym (q .2)) u)), x .within))))
 
-  pub none : {place : ℕ} → FailedAt condition n parentheses w 0 place → Says n v w Unread
-  none f = unread-says (λ y. f .failed .dead w [] refl nothing-ends (all-of y))
+  pub none : {place : ℕ} → FailedAt condition n parentheses w 0 place → Says n v w (Unread (place + 1))
+  none {place} f =
+      let y = f .failed in
+      let e : place ≡ f .passed = omega (arith, f .count) in
+      unread-says (rw e (stops (y .short) (record { behind = y .alive .0; reads = of-all (y .alive .1) }) (λ w′ e x. y .dead w′ [] e nothing-ends (all-of x))))

@@ -1,4 +1,4 @@
-// Conditions (document 01): what a text says at a setting, read at a number of inputs, or that it does not read.
+// Conditions (document 01): what a text says at a setting, read at a number of inputs, or which character is wrong in it.
 //
 // One function for each level of the grammar. Each reads the part that begins at `at`, where `opened` parentheses are open, and
 // loops over what its level joins; the levels come round again only inside a parenthesis.
@@ -13,10 +13,10 @@ use machine::INPUTS;
 // The most parentheses open at any place.
 pub const PARENTHESES: usize = 8;
 
-// What a text says: whether its condition holds, or that it does not read.
+// What a text says: whether its condition holds; or that it does not read, and at which character, counted from 1.
 pub enum Meaning {
     Is(bool),
-    Unread,
+    Unread(usize),
 }
 
 // What reading a part found: whether it holds, and where it ends; or the place of the character that it cannot go on with.
@@ -36,12 +36,12 @@ pub fn read(text: &[u8], inputs: usize, setting: usize) -> Meaning
     ensures { λ r. ⌜ Says inputs setting (now (text .entry)) r ⌝ }
 {
     match condition(text, 0, inputs, setting, 0) {
-        Part::Bad(_) => Meaning::Unread,
+        Part::Bad(place) => Meaning::Unread(place + 1),
         Part::Value(holds, end) => {
             if end == text.len() {
                 Meaning::Is(holds)
             } else {
-                Meaning::Unread
+                Meaning::Unread(end + 1)
             }
         }
     }
@@ -53,7 +53,7 @@ pub fn holds(text: &[u8], inputs: usize, setting: usize) -> bool
 {
     match read(text, inputs, setting) {
         Meaning::Is(b) => b,
-        Meaning::Unread => false,
+        Meaning::Unread(_) => false,
     }
 }
 
