@@ -1,23 +1,29 @@
 -- The conditions of a file by their places: that of a record ends where the next text begins, and kind 5, the last entry, runs from
--- where the texts end to the end of the file.
-use mathlib.Core.Path.{_≡_, sym, ap, ap₂, subst, _∙_}
+-- where the texts end to the end of the file. The character with an answer is one, since 5 is that of a condition, which has one.
+use mathlib.Core.Path.{_≡_, refl, sym, ap, ap₂, subst, _∙_}
 use mathlib.Core.List.{List}
 use mathlib.Core.Logic.{⊎-elim}
 use Prim.Native.Nat.{ℕ, _+_, _-_, _≤_, _<_}
 use native.Mathlib.Omega.{arith}
+use native.Mathlib.Decide.{ℕ-discrete}
 use lib.ListN.{length, getD, take, drop, set}
 use lib.Seq.{getD-set-same, getD-set-other}
 use borrow.Author.Tests.{lt-ltb, le-ltb}
 use Rattle.verdict.specs.Buffers.{Filled}
+use Rattle.verdict.specs.Checks.{Judged, Passed}
+use Rattle.verdict.specs.declared.Answer.{Answer}
+use Rattle.verdict.proofs.Order.{judged-or, judged-number}
 use Rattle.verdict.proofs.Tests.{meets}
 use Rattle.verdict.proofs.Fills.{filled-more}
 use Rattle.condition.specs.Condition.{Says}
 use Rattle.condition.specs.declared.Meaning.{Meaning}
+use Rattle.condition.proofs.Characters.{character-only}
 use Rattle.machine.proofs.Order.{below-or}
 use Rattle.specification.specs.File.{countOf, lengthOf, startOf, bodyOf, kinds}
 use Rattle.specification.specs.Records.{records, textLength}
-use Rattle.specification.specs.Rules.{textAt, textOf, conditions, conditionOf}
-use Rattle.specification.specs.inner.Private.{Laid, Placed}
+use Rattle.specification.specs.Rules.{textAt, textOf, conditions, conditionOf, Unreads}
+use Rattle.specification.specs.Reading.{CharacterFor}
+use Rattle.specification.specs.inner.Private.{Laid, Placed, soundChecks}
 use Rattle.specification.specs.declared.records.Sizes.{Sizes}
 use Rattle.specification.proofs.Entries.{count-few}
 use Rattle.specification.proofs.Never.{never-last, never-ends}
@@ -81,3 +87,17 @@ module _ {file : List ℕ} {z : Sizes} {starts : List ℕ} (p : Placed file z st
         let b : kinds ≡ kinds + (r - records z) = omega (arith, k .0) in
         rw (le-ltb r (records z) l) (ap₂ (λ (n at : ℕ). take n (drop at file)) n (k .1) ∙ ap (bodyOf file) b))
         (below-or r (records z))
+
+-- 5 is the refusal of a condition that does not read
+pub five-unreads : {file : List ℕ} {z : Sizes} {a : Answer} → Judged (soundChecks file z) Passed a → a .number ≡ 5 → Unreads file z (a .place)
+five-unreads v e =
+    judged-or v (λ l n. absurd (omega arith)) (λ _ u.
+    judged-or u (λ l n. l .here) (λ _ w. absurd (omega (arith, judged-number 6 13 w refl (λ n. omega arith)))))
+
+-- the character with an answer is one
+pub character-for-only : {file : List ℕ} {z : Sizes} {a : Answer} {j k : ℕ} → CharacterFor file z a j → CharacterFor file z a k → j ≡ k
+character-for-only {a = a} {j} {k} x y = by (ℕ-discrete (a .number) 5)
+  where
+    by : Dec (a .number ≡ 5) → j ≡ k
+    by (yes e) = character-only (x .unread e) (y .unread e)
+    by (no n) = x .other n ∙ sym (y .other n)

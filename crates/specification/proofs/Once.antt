@@ -1,5 +1,6 @@
 -- Each promise of this crate leaves one outcome: the answer and every element of each lent buffer. The verdict of a list of checks is
--- one; the sizes and the frame are the file's; and where a file is read no two rules hold, so that each couple has one move.
+-- one, and so is the character with it; the sizes and the frame are the file's; and where a file is read no two rules hold, so that
+-- each couple has one move.
 use mathlib.Core.Path.{_≡_, refl, sym, ap, ap₂, _∙_}
 use mathlib.Core.List.{List}
 use mathlib.Core.Logic.{_⊎_, ⊎-elim}
@@ -20,6 +21,7 @@ use Rattle.specification.specs.Evolutions.{Handed}
 use Rattle.specification.specs.Reading.{refusalOf, ContentsOf, ReadHere, ReadAs}
 use Rattle.specification.specs.declared.Contents.{Contents}
 use Rattle.specification.specs.declared.records.Sizes.{Sizes}
+use Rattle.specification.proofs.Conditions.{character-for-only}
 use Rattle.specification.proofs.Framing.{frame-only}
 use Rattle.specification.proofs.Settling.{same-move}
 
@@ -38,10 +40,11 @@ module _ {file table words : List ℕ} {room : ℕ} {r : Contents} {t w : List �
       same-move file (sizesOf file) (no-two-rules (few e)) k (f .move _ _ k) (g .move _ _ k)
 
 -- what is answered on success is one
-contents-only : {file : List ℕ} {z : Sizes} (r q : Contents) → ContentsOf file z r → ContentsOf file z q → r .answer ≡ q .answer → r ≡ q
-contents-only r q x y e =
-    ap₂ (λ (a : Answer) (o : ℕ). record { answer = a; outputs = o; evolutions = r .evolutions; frame = r .frame }) e (x .outputs ∙ sym (y .outputs))
-    ∙ ap₂ (λ (n : ℕ) (f : Frame). record { answer = q .answer; outputs = q .outputs; evolutions = n; frame = f }) (x .evolutions ∙ sym (y .evolutions)) (frame-only (x .frame) (y .frame))
+contents-only : {file : List ℕ} {z : Sizes} (r q : Contents) → ContentsOf file z r → ContentsOf file z q → r .answer ≡ q .answer → r .character ≡ q .character → r ≡ q
+contents-only r q x y e k =
+    ap₂ (λ (a : Answer) (c : ℕ). record { answer = a; character = c; outputs = r .outputs; evolutions = r .evolutions; frame = r .frame }) e k
+    ∙ ap₂ (λ (o n : ℕ). record { answer = q .answer; character = q .character; outputs = o; evolutions = n; frame = r .frame }) (x .outputs ∙ sym (y .outputs)) (x .evolutions ∙ sym (y .evolutions))
+    ∙ ap (λ (f : Frame). record { answer = q .answer; character = q .character; outputs = q .outputs; evolutions = q .evolutions; frame = f }) (frame-only (x .frame) (y .frame))
 
 -- the promise of `read_here`
 module _ {file table words : List ℕ} {room : ℕ} {r q : Contents} {t t′ w w′ : List ℕ} (u : ReadHere file table words room r t w) (v : ReadHere file table words room q t′ w′) where
@@ -51,9 +54,12 @@ module _ {file table words : List ℕ} {room : ℕ} {r q : Contents} {t t′ w w
   same-number : r .answer .number ≡ q .answer .number
   same-number = ap (λ (a : Answer). a .number) same-answer
 
+  same-character : r .character ≡ q .character
+  same-character = character-for-only (u .character) (rw (sym same-answer) at (v .character))
+
   same-contents : Dec (r .answer .number ≡ 0) → r ≡ q
-  same-contents (yes e) = contents-only r q (u .done e) (v .done (sym same-number ∙ e)) same-answer
-  same-contents (no n) = u .refused n ∙ ap refusalOf same-answer ∙ sym (v .refused (λ e. n (same-number ∙ e)))
+  same-contents (yes e) = contents-only r q (u .done e) (v .done (sym same-number ∙ e)) same-answer same-character
+  same-contents (no n) = u .refused n ∙ ap₂ refusalOf same-answer same-character ∙ sym (v .refused (λ e. n (same-number ∙ e)))
 
   pub only-here : (r ≡ q) × (t ≡ t′) × (w ≡ w′)
   only-here = (

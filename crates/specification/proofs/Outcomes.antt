@@ -21,12 +21,13 @@ use Rattle.specification.proofs.Laws.{laid}
 
 module _ (file table words : List ℕ) (room : ℕ) {s : Answer} (v : Judged (shapeChecks file (length table) (length words) room) Passed s) where
   -- refused by 1, 2 or 3
-  pub early : {k : Contents} → k ≡ refusalOf s → (s .number ≡ 0 → ⊥) → CoreAs file table words room (record { contents = k; from = 0; text = 0; count = 0; good = false }) table words
+  pub early : {k : Contents} → k ≡ refusalOf s 0 → (s .number ≡ 0 → ⊥) → CoreAs file table words room (record { contents = k; from = 0; text = 0; count = 0; good = false }) table words
   early e n =
       let b = judged-number 1 3 v refl n in
       subst (λ k. CoreAs file table words room (record { contents = k; from = 0; text = 0; count = 0; good = false }) table words) (sym e) (record {
         here = record {
           verdict = judged-stop (soundChecks file (sizesOf file)) v n;
+          character = record { unread = λ e. absurd (omega (arith, b .1)); other = λ _. refl };
           refused = λ _. refl;
           done = λ h. absurd (n h);
           table = left-same (b .0) (b .1);
@@ -48,6 +49,7 @@ module _ (file table words : List ℕ) (room : ℕ) {s : Answer} (v : Judged (sh
         record {
           here = record {
             verdict = judged-on 3 v refl e (u .judged);
+            character = o .character;
             refused = λ n. o .refused n .0;
             done = λ n. o .done n .0;
             table = u .table;

@@ -1,5 +1,5 @@
--- Reading a file: its checks in their order, and what it leaves (document 01, "Refusals by number").
--- Assumes nothing: these are definitions.
+-- Reading a file: its checks in their order, and what it leaves (document 01, "Refusals by number"; document 02, ticket 4). Assumes
+-- nothing: these are definitions.
 use mathlib.Core.Path.{_≡_}
 use mathlib.Core.List.{List, [], _∷_, _++_}
 use Prim.Native.Nat.{ℕ}
@@ -8,12 +8,13 @@ use Rattle.sets.specs.Sets.{words}
 use Rattle.verdict.specs.Checks.{Check, check, Unless, Short, Passed, Judged}
 use Rattle.verdict.specs.Buffers.{Left}
 use Rattle.verdict.specs.declared.Answer.{Answer}
+use Rattle.condition.specs.Condition.{CharacterOf}
 use Rattle.evolutions.specs.declared.Evolution.{Evolution}
 use Rattle.machine.specs.Moves.{Transient, SameWord, Unreached, Start}
 use Rattle.specification.specs.Limits.{blankMove, blankWord}
 use Rattle.specification.specs.File.{WellFormed}
 use Rattle.specification.specs.Records.{sizesOf, settings, couples, word, Sized, Beyond, Own, Twice}
-use Rattle.specification.specs.Rules.{Unreads, TwoRules, NoRule, Moves, MoveAt, MayStart, FrameOf}
+use Rattle.specification.specs.Rules.{conditionOf, Unreads, TwoRules, NoRule, Moves, MoveAt, MayStart, FrameOf}
 use Rattle.specification.specs.Evolutions.{Handed}
 use Rattle.specification.specs.declared.Contents.{Contents}
 use Rattle.specification.specs.declared.records.Sizes.{Sizes}
@@ -73,9 +74,14 @@ fileChecks file tableRoom wordRoom recordRoom =
     let z = sizesOf file in
     shapeChecks file tableRoom wordRoom recordRoom ++ recordChecks file z ++ ruleChecks file z ++ moveChecks file z
 
+-- the character with the answer a: with 5 that of the condition at its place, zero with every other
+pub record CharacterFor (file : List ℕ) (z : Sizes) (a : Answer) (k : ℕ) : Type 0 where
+  pub unread : a .number ≡ 5 → CharacterOf (z .inputs) (conditionOf file z (a .place)) k
+  pub other : (a .number ≡ 5 → ⊥) → k ≡ 0
+
 -- a refusal: the sizes are all zero, and no setting is ruled out
-abbrev pub refusalOf : Answer → Contents
-refusalOf a = record { answer = a; outputs = 0; evolutions = 0; frame = record { inputs = 0; states = 0; initial = 0; never = replicate words 0 } }
+abbrev pub refusalOf : Answer → ℕ → Contents
+refusalOf a k = record { answer = a; character = k; outputs = 0; evolutions = 0; frame = record { inputs = 0; states = 0; initial = 0; never = replicate words 0 } }
 
 -- success: the sizes of the file, and its frame
 pub record ContentsOf (file : List ℕ) (z : Sizes) (r : Contents) : Type 0 where
@@ -83,10 +89,11 @@ pub record ContentsOf (file : List ℕ) (z : Sizes) (r : Contents) : Type 0 wher
   pub evolutions : r .evolutions ≡ z .evolutions
   pub frame : FrameOf file z (r .frame)
 
--- Reading a file at room for so many records: the verdict, the sizes, the table and the words.
+-- Reading a file at room for so many records: the verdict, the character, the sizes, the table and the words.
 pub record ReadHere (file table₀ words₀ : List ℕ) (room : ℕ) (r : Contents) (table₁ words₁ : List ℕ) : Type 0 where
   pub verdict : Judged (fileChecks file (length table₀) (length words₀) room) Passed (r .answer)
-  pub refused : (r .answer .number ≡ 0 → ⊥) → r ≡ refusalOf (r .answer)
+  pub character : CharacterFor file (sizesOf file) (r .answer) (r .character)
+  pub refused : (r .answer .number ≡ 0 → ⊥) → r ≡ refusalOf (r .answer) (r .character)
   pub done : r .answer .number ≡ 0 → ContentsOf file (sizesOf file) r
   pub table : Left (r .answer .number) (couples (sizesOf file)) blankMove (MoveAt file (sizesOf file) (settings (sizesOf file))) table₀ table₁
   pub words : Left (r .answer .number) (sizesOf file .states) blankWord (λ s w. w ≡ word file (sizesOf file) s) words₀ words₁

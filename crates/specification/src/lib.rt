@@ -27,10 +27,12 @@ pub const BYTES: usize = 65535;
 // The most bytes of a condition.
 const TEXT: usize = 255;
 
-// The answer, and the sizes and frame of the file, all zero on refusal; the frame goes to the table jobs as it is.
+// The answer, with 5 the character at which the condition does not read, else 0; and the sizes and frame of the file, all zero on
+// refusal. The frame goes to the table jobs as it is.
 #[repr(C)]
 pub struct Contents {
     pub answer: Answer,
+    pub character: usize,
     pub outputs: usize,
     pub evolutions: usize,
     pub frame: Frame,

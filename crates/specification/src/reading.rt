@@ -28,6 +28,7 @@ use crate::records::texts_sum;
 use crate::records::word;
 use crate::rules::BLANK_MOVE;
 use crate::rules::TEXTS;
+use crate::rules::character_of;
 use crate::rules::check_texts;
 use crate::rules::fill_moves;
 use crate::rules::next_rules;
@@ -223,11 +224,12 @@ fn read_sound(file: &[u8], z: Sizes, frame: Frame, table: &mut [u8], words: &mut
     a
 }
 
-fn refusal(a: Answer) -> Contents
-    ensures { λ r. ⌜ r ≡ refusalOf a ⌝ }
+fn refusal(a: Answer, character: usize) -> Contents
+    ensures { λ r. ⌜ r ≡ refusalOf a character ⌝ }
 {
     Contents {
         answer: a,
+        character: character,
         outputs: 0,
         evolutions: 0,
         frame: Frame {
@@ -241,14 +243,14 @@ fn refusal(a: Answer) -> Contents
 
 // What is answered and handed on of a file that passes 1 to 3: its sizes, its frame and its evolutions where it is sound.
 fn outcome(file: &[u8], z: Sizes, frame: Frame, a: Answer) -> Core
-    requires { ⌜ Laid (now file) z × FrameOf (now file) z frame ⌝ }
+    requires { ⌜ Laid (now file) z × FrameOf (now file) z frame × Judged (soundChecks (now file) z) Passed a ⌝ }
     ensures { λ r. ⌜ OutcomeAs (now (file .entry)) z a r ⌝ }
 {
     let from = record_at(z, z.states);
     let text = record_at(z, z.states + z.evolutions) + texts_sum(file, z, z.states);
     if a.number != 0 {
         return Core {
-            contents: refusal(a),
+            contents: refusal(a, character_of(file, z, a)),
             from: from,
             text: text,
             count: z.evolutions,
@@ -257,6 +259,7 @@ fn outcome(file: &[u8], z: Sizes, frame: Frame, a: Answer) -> Core
     }
     let contents = Contents {
         answer: a,
+        character: 0,
         outputs: z.outputs,
         evolutions: z.evolutions,
         frame: frame,
@@ -277,7 +280,7 @@ pub(crate) fn read_core(file: &[u8], table: &mut [u8], words: &mut [u16], record
     let shape = check_shape(file, table.len(), words.len(), records);
     if shape.answer.number != 0 {
         return Core {
-            contents: refusal(shape.answer),
+            contents: refusal(shape.answer, 0),
             from: 0,
             text: 0,
             count: 0,

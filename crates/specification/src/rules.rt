@@ -9,7 +9,8 @@ ghost use Rattle.condition.specs.Condition.{Says, Holds};
 ghost use Rattle.machine.specs.Limits.{mostSettings};
 ghost use Rattle.specification.specs.Records.{records};
 ghost use Rattle.specification.specs.Rules.{textOf, conditions, conditionOf, Unreads, ruleOf, leadsTo, TwoRules};
-ghost use Rattle.specification.specs.inner.Private.{Laid, Placed, Follows, Linked, Noted};
+ghost use Rattle.specification.specs.Reading.{CharacterFor};
+ghost use Rattle.specification.specs.inner.Private.{Laid, Placed, Follows, Linked, Noted, soundChecks};
 use crate::EVOLUTIONS;
 use crate::records::Sizes;
 use crate::records::record_at;
@@ -70,6 +71,21 @@ pub(crate) fn check_texts(file: &[u8], z: Sizes, starts: &[usize; TEXTS]) -> Ans
     Answer {
         number: 0,
         place: 0,
+    }
+}
+
+// The character of refusal 5, that of its record's condition; 0 with every other answer.
+pub(crate) fn character_of(file: &[u8], z: Sizes, a: Answer) -> usize
+    requires { ⌜ Laid (now file) z × Judged (soundChecks (now file) z) Passed a ⌝ }
+    ensures { λ r. ⌜ CharacterFor (now (file .entry)) z a r ⌝ }
+{
+    if a.number != 5 {
+        return 0;
+    }
+    let starts = starts_of(file, z);
+    match says(file, z, &starts, a.place, 0) {
+        Meaning::Is(_) => 0,
+        Meaning::Unread(character) => character,
     }
 }
 

@@ -15,7 +15,7 @@ use Rattle.specification.specs.Limits.{mostBytes, blankMove, blankWord}
 use Rattle.specification.specs.File.{countOf, lengthOf, startOf, kinds, neverKind, WellFormed}
 use Rattle.specification.specs.Records.{word, settings, couples, records, recordAt, sizesOf, Ranges, Beyond, Own, Twice}
 use Rattle.specification.specs.Rules.{textAt, ruleOf, Fires, MoveAt}
-use Rattle.specification.specs.Reading.{recordChecks, ruleChecks, moveChecks, refusalOf, ContentsOf, ReadHere}
+use Rattle.specification.specs.Reading.{recordChecks, ruleChecks, moveChecks, CharacterFor, refusalOf, ContentsOf, ReadHere}
 use Rattle.specification.specs.declared.file.Bodies.{Bodies}
 use Rattle.specification.specs.declared.records.Sizes.{Sizes}
 use Rattle.specification.specs.declared.records.RecordCheck.{RecordCheck}
@@ -87,7 +87,8 @@ pub record SoundAs (file : List ℕ) (z : Sizes) (table₀ words₀ : List ℕ) 
 -- what is answered and handed on of a file that passes 1 to 3, by what 4 to 13 answer
 pub record OutcomeAs (file : List ℕ) (z : Sizes) (a : Answer) (r : Core) : Type 0 where
   pub answer : r .contents .answer ≡ a
-  pub refused : (a .number ≡ 0 → ⊥) → (r .contents ≡ refusalOf a) × (r .good ≡ false)
+  pub character : CharacterFor file z a (r .contents .character)
+  pub refused : (a .number ≡ 0 → ⊥) → (r .contents ≡ refusalOf a (r .contents .character)) × (r .good ≡ false)
   pub done : a .number ≡ 0 → ContentsOf file z (r .contents) × (r .good ≡ true)
   pub from : r .from ≡ recordAt z (z .states)
   pub text : r .text ≡ textAt file z (z .states)

@@ -23,7 +23,7 @@ read-sound-requires c κs =
     (laid-read s, c .before .before .frame-of .ensures, omega (arith, ap couples (s .2), roomy (p .1 .1 .0)), omega (arith, ap (λ (z : Sizes). z .states) (s .2), roomy (p .1 .1 .1 .0)))
 
 outcome-requires : tie.Need-outcome-requires
-outcome-requires c κs = (laid-read (c .before .before .before .before .before .before .before .before .before .before .before .check-shape .ensures .1 (c .before .before .before .before .before .before .before .before .before .if1 .left)), c .before .before .before .before .before .before .before .frame-of .ensures)
+outcome-requires c κs = (laid-read (c .before .before .before .before .before .before .before .before .before .before .before .check-shape .ensures .1 (c .before .before .before .before .before .before .before .before .before .if1 .left)), c .before .before .before .before .before .before .before .frame-of .ensures, c .before .before .before .before .read-sound .ensures .judged)
 
 returns-2 : tie.Need-returns-2
 returns-2 c = late _ _ _ _ (c .before .before .before .before .before .before .before .before .before .before .before .before .check-shape .ensures .0) (c .before .before .before .before .before .before .before .before .before .before .if1 .left) (c .before .before .before .before .before .before .before .before .before .before .before .before .check-shape .ensures .1 (c .before .before .before .before .before .before .before .before .before .before .if1 .left)) (c .before .before .before .before .before .read-sound .ensures) (c .outcome .ensures)
