@@ -36,7 +36,7 @@ pub text-once : {m : Machine} → Sound m → {t u : List ℕ} → PlanText m t 
 text-once {m} ok (sheet r b l) (sheet s d k) = ap₂ (sheetText (m .inputs) (m .states)) (ranks-once r s) (bytes-unique ok b d)
 text-once ok (sheet r b l) (long (w, d, k)) = let e = ap length (bytes-unique ok b d) in let h = k .1 in absurd (omega arith)
 text-once ok (long (w, d, k)) (sheet r b l) = let e = ap length (bytes-unique ok b d) in let h = k .1 in absurd (omega arith)
-text-once ok (long (w, d, k)) (long (u, b, l)) = ap (refusalText 16) (k .0 ∙ ap length (bytes-unique ok d b) ∙ sym (l .0))
+text-once ok (long (w, d, k)) (long (u, b, l)) = ap (λ (n : ℕ). refusalText 16 n 0) (k .0 ∙ ap length (bytes-unique ok d b) ∙ sym (l .0))
 
 module _ {m : Machine} {room : ℕ} (y : Ready m room) {ranks₀ plan₀ ranks₁ plan₁ : List ℕ} {a : Answer} (p : PlannedAs m ranks₀ plan₀ a ranks₁ plan₁)
     (ranks-lent : length ranks₀ ≡ mostCouples) (plan-lent : length plan₀ ≡ planRoom) where
@@ -55,11 +55,11 @@ module _ {m : Machine} {room : ℕ} (y : Ready m room) {ranks₀ plan₀ ranks�
       (subst₂ (λ (r k : ℕ). Judged (planChecks m r k) (PlanDone m) a) ranks-lent plan-lent (p .verdict)) .verdict
 
   -- only 16 refuses it
-  pub plan-refused : (a .number ≡ 0 → ⊥) → PlanText m (refusalText (a .number) (a .place))
+  pub plan-refused : (a .number ≡ 0 → ⊥) → PlanText m (refusalText (a .number) (a .place) 0)
   plan-refused n = by verdict
     where
-      by : Then (ShortPlan m planRoom) 16 (PlanDone m a) a → PlanText m (refusalText (a .number) (a .place))
-      by (refused l e) = subst (λ n. PlanText m (refusalText n (a .place))) (sym e) (long (l .here))
+      by : Then (ShortPlan m planRoom) 16 (PlanDone m a) a → PlanText m (refusalText (a .number) (a .place) 0)
+      by (refused l e) = subst (λ n. PlanText m (refusalText n (a .place) 0)) (sym e) (long (l .here))
       by (next o d) = absurd (n (d .number))
 
   module _ (e : a .number ≡ 0) where

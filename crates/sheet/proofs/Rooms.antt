@@ -67,8 +67,8 @@ module _ {m : Machine} (ok : Sound m) where
           sheet-room (m .inputs) (m .states) ranks bytes (omega arith) (omega arith) (omega (arith, few, r .whole)) (omega (arith, r .whole)) (omega arith) (plan-bytes b),
         )
 
-pub refusal-fits : (number place : ℕ) → number < 2 ^ 64 → place < 2 ^ 64 → length (refusalText number place) ≤ textRoom
-refusal-fits number place n p = omega (arith, refusal-room number place (omega arith) (omega arith))
+pub refusal-fits : (number place character : ℕ) → number < 2 ^ 64 → place < 2 ^ 64 → character < 2 ^ 64 → length (refusalText number place character) ≤ textRoom
+refusal-fits number place character n p c = omega (arith, refusal-room number place character (omega arith) (omega arith) (omega arith))
 
 -- a text that has room is written whole
 pub written-whole : {text before after : List ℕ} {answer : Written} → Writes text answer before after → length text ≤ length before → Whole answer

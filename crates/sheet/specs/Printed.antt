@@ -1,4 +1,5 @@
--- The text that the program prints for a file (document 01, "Examples on both sides"). Assumes nothing: these are definitions.
+-- The text that the program prints for a file (document 01, "Examples on both sides"; document 02, ticket 4). Assumes nothing: these
+-- are definitions.
 use mathlib.Core.Path.{_≡_}
 use mathlib.Core.List.{List}
 use Prim.Native.Nat.{ℕ, _+_, _*_, _≤_}
@@ -11,7 +12,7 @@ use Rattle.machine.specs.declared.Frame.{Frame}
 use Rattle.specification.specs.Limits.{mostEvolutions}
 use Rattle.specification.specs.Records.{sizesOf}
 use Rattle.specification.specs.Rules.{TableOf, FrameOf}
-use Rattle.specification.specs.Reading.{fileChecks}
+use Rattle.specification.specs.Reading.{fileChecks, CharacterFor}
 use Rattle.plan.specs.Planning.{PlanBytes, ShortPlan}
 use Rattle.show.specs.Sheet.{sheetText, refusalText}
 use Rattle.show.specs.Written.{Writes}
@@ -32,11 +33,11 @@ accepted = record { number = 0; place = 0 }
 -- what is printed for a machine: its sheet; a plan longer than the plan buffer prints refusal 16
 pub data PlanText (m : Machine) : List ℕ → Type 0 where
   sheet : {ranks bytes : List ℕ} → RanksOf m ranks → PlanBytes m bytes → length bytes ≤ planRoom → PlanText m (sheetText (m .inputs) (m .states) ranks bytes)
-  long : {bytes : ℕ} → ShortPlan m planRoom bytes → PlanText m (refusalText 16 bytes)
+  long : {bytes : ℕ} → ShortPlan m planRoom bytes → PlanText m (refusalText 16 bytes 0)
 
--- what is printed for a file: the line of its refusal; where it reads, the text of its machine
+-- what is printed for a file: the line of its refusal, with its character; where it reads, the text of its machine
 pub data SheetOf (file : List ℕ) : List ℕ → Type 0 where
-  refused : {a : Answer} → Answers file a → (a .number ≡ 0 → ⊥) → SheetOf file (refusalText (a .number) (a .place))
+  refused : {a : Answer} {k : ℕ} → Answers file a → CharacterFor file (sizesOf file) a k → (a .number ≡ 0 → ⊥) → SheetOf file (refusalText (a .number) (a .place) k)
   read : {f : Frame} {table text : List ℕ} → Answers file accepted → FrameOf file (sizesOf file) f → TableOf file table → PlanText (machineOf f table) text → SheetOf file text
 
 -- room for every text: the first line, a line for each rank, and at most 5 letters for each byte of the plan

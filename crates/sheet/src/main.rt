@@ -85,7 +85,7 @@ fn write_sheet(file: &[u8], text: &mut [u8]) -> usize
     let contents = read_here(file, &mut table, &mut words);
     let answer = contents.answer;
     if answer.number != 0 {
-        return write_refusal(answer, text);
+        return write_refusal(answer, contents.character, text);
     }
     let frame = contents.frame;
     let couples = frame.states * machine::settings(frame.inputs);
@@ -101,7 +101,7 @@ fn write_plan(frame: Frame, table: &[u8], text: &mut [u8]) -> usize
     let mut runs = [0u8; PLAN];
     let answer = plan(frame, table, &mut ranks, &mut runs);
     if answer.number != 0 {
-        return write_refusal(answer, text);
+        return write_refusal(answer, 0, text);
     }
     let couples = table.len();
     let end = answer.place;
@@ -115,11 +115,11 @@ fn write_plan(frame: Frame, table: &[u8], text: &mut [u8]) -> usize
 }
 
 // Writes the line of a refusal, and answers how many bytes it has.
-fn write_refusal(answer: Answer, text: &mut [u8]) -> usize
+fn write_refusal(answer: Answer, character: usize, text: &mut [u8]) -> usize
     requires { ⌜ textRoom ≤ length (now text) ⌝ }
-    ensures { λ r. ⌜ Writes (refusalText (answer .number) (answer .place)) (All r) (now (text .entry)) (now (text .exit)) ⌝ }
+    ensures { λ r. ⌜ Writes (refusalText (answer .number) (answer .place) character) (All r) (now (text .entry)) (now (text .exit)) ⌝ }
 {
-    whole(refusal(answer.number, answer.place, text))
+    whole(refusal(answer.number, answer.place, character, text))
 }
 
 // How many bytes a text has that was written whole.

@@ -1,4 +1,4 @@
--- Document 01's sheet of the lamp, and the line of a refusal, computed from the definitions.
+-- Document 01's sheet of the lamp, and the lines of two refusals, computed from the definitions.
 use mathlib.Core.Path.{_≡_, refl}
 use mathlib.Core.List.{List, [], _∷_, _++_}
 use Prim.Native.Nat.{ℕ}
@@ -23,6 +23,10 @@ pub lamp-sheet : sheetText 1 2 lampRanks lampPlan
 unfolding digitsUpTo digits firstLine
 lamp-sheet = refl
 
-pub plan-refused : refusalText 16 65540 ≡ letters "REFUSED 16 65540\n"
+pub plan-refused : refusalText 16 65540 0 ≡ letters "REFUSED 16 65540\n"
 unfolding digitsUpTo digits
 plan-refused = refl
+
+pub unread-refused : refusalText 5 3 4 ≡ letters "REFUSED 5 3 4\n"
+unfolding digitsUpTo digits
+unread-refused = refl

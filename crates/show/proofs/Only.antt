@@ -18,6 +18,6 @@ pub sheet-only : (inputs states : ℕ) (ranks plan before : List ℕ) {r r′ : 
     → Writes (sheetText inputs states ranks plan) r before b → Writes (sheetText inputs states ranks plan) r′ before b′ → Same r r′ b b′
 sheet-only inputs states ranks plan before = writes-only (sheetText inputs states ranks plan) before
 
-pub refusal-only : (number place : ℕ) (before : List ℕ) {r r′ : Written} {b b′ : List ℕ}
-    → Writes (refusalText number place) r before b → Writes (refusalText number place) r′ before b′ → Same r r′ b b′
-refusal-only number place before = writes-only (refusalText number place) before
+pub refusal-only : (number place character : ℕ) (before : List ℕ) {r r′ : Written} {b b′ : List ℕ}
+    → Writes (refusalText number place character) r before b → Writes (refusalText number place character) r′ before b′ → Same r r′ b b′
+refusal-only number place character before = writes-only (refusalText number place character) before

@@ -1,6 +1,6 @@
 -- The longest sheet: 46 bytes for the first line, 17 for each couple and 5 for each byte of the plan, with numbers of at most 5 digits.
 -- A number has as many digits as its tenth part and one more; a run's line has at most 5 bytes for each byte that stores it.
--- The line of a refusal has at most 33 bytes. By induction on the ranks, on the settings and on the runs.
+-- The line of a refusal is short. By induction on the ranks, on the settings and on the runs.
 use mathlib.Core.Path.{_≡_, refl, sym, ap, _∙_}
 use mathlib.Core.Bool.{Bool, true, false, cond}
 use mathlib.Core.List.{List, [], _∷_, map}
@@ -11,10 +11,11 @@ use native.Mathlib.Omega.{arith}
 use lib.Dec.{eqb, ltb}
 use lib.ListN.{length, getD, take, drop, length-append, take-append-drop}
 use borrow.Author.Tests.{ltb-true, ltb-false, eq-eqb}
+use Rattle.basics.specs.Texts.{letters}
 use Rattle.machine.specs.Limits.{unmarked}
 use Rattle.machine.specs.Plans.{split}
 use Rattle.show.specs.Digits.{digits}
-use Rattle.show.specs.Sheet.{countOf, markedIn, ranksIn, fieldsBehind, firstLine, rankLines, runLines, sheetText, refusalText}
+use Rattle.show.specs.Sheet.{countOf, markedIn, ranksIn, fieldsBehind, line, firstLine, rankLines, runLines, sheetText, refusalText}
 use Rattle.show.proofs.Digits.{digits-one, digits-more}
 use Rattle.show.proofs.Counts.{count-fits, marked-rest}
 
@@ -96,6 +97,10 @@ ranks-low t (x ∷ ranks) h =
     below true rest l = rest
     below false rest l = omega arith
 
--- the line of a refusal is short: a number and a place have at most 20 digits
-pub refusal-room : (number place : ℕ) → number < 10 ^ 20 → place < 10 ^ 20 → length (refusalText number place) ≤ 50
-refusal-room number place n p = simp length-append (omega (arith, room-up 19 number n, room-up 19 place p))
+-- the line of a refusal is short: each of its numbers has at most 20 digits
+pub refusal-room : (number place character : ℕ) → number < 10 ^ 20 → place < 10 ^ 20 → character < 10 ^ 20 → length (refusalText number place character) ≤ 71
+refusal-room number place character n p c = by (eqb number 5)
+  where
+    by : (five : Bool) → length (line (letters "REFUSED") (digits number ∷ digits place ∷ cond five (digits character ∷ []) [])) ≤ 71
+    by true = simp length-append (omega (arith, room-up 19 number n, room-up 19 place p, room-up 19 character c))
+    by false = simp length-append (omega (arith, room-up 19 number n, room-up 19 place p))

@@ -70,6 +70,7 @@ abbrev pub sheetText : ℕ → ℕ → List ℕ → List ℕ → List ℕ
 sheetText inputs states ranks plan =
     firstLine inputs states (length ranks) (markedIn ranks) ++ (rankLines (λ r. countOf r ranks) (ranksIn ranks) ++ runLines 1 (runsIn plan))
 
--- the one line of a refusal
-abbrev pub refusalText : ℕ → ℕ → List ℕ
-refusalText number place = line (letters "REFUSED") (digits number ∷ digits place ∷ [])
+-- the one line of a refusal: 5 alone has a third field, the character (document 02, ticket 4)
+abbrev pub refusalText : ℕ → ℕ → ℕ → List ℕ
+refusalText number place character =
+    line (letters "REFUSED") (digits number ∷ digits place ∷ cond (eqb number 5) (digits character ∷ []) [])

@@ -9,7 +9,7 @@ ghost use Rattle.basics.specs.Texts.{letters};
 ghost use Rattle.machine.specs.Limits.{mostCouples};
 ghost use Rattle.machine.specs.Plans.{runsIn};
 ghost use Rattle.show.specs.Digits.{digits};
-ghost use Rattle.show.specs.Sheet.{countOf, line, fieldsBehind, firstLine, rankLine, rankLines, runLine, runLines, ranksIn, sheetText, refusalText};
+ghost use Rattle.show.specs.Sheet.{countOf, fieldsBehind, firstLine, rankLine, rankLines, runLine, runLines, ranksIn, sheetText, refusalText};
 ghost use Rattle.show.specs.Written.{Writes};
 ghost use Rattle.show.specs.inner.Steps.{Adds, Counted, raised};
 use basics::long;
@@ -34,11 +34,17 @@ pub fn sheet(inputs: usize, states: usize, ranks: &[u16], plan: &[u8], out: &mut
     run_lines(plan, of_ranks, out)
 }
 
-// Writes the line of a refusal over the front of out.
-pub fn refusal(number: usize, place: usize, out: &mut [u8]) -> Written
-    ensures { λ r. ⌜ Writes (refusalText number place) r (now (out .entry)) (now (out .exit)) ⌝ }
+// Writes the line of a refusal over the front of out, for 5 alone with the character.
+pub fn refusal(number: usize, place: usize, character: usize, out: &mut [u8]) -> Written
+    ensures { λ r. ⌜ Writes (refusalText number place character) r (now (out .entry)) (now (out .exit)) ⌝ }
 {
-    line_of_two(b"REFUSED", number, place, Written::All(0), out)
+    let of_number = named(b"REFUSED", number, Written::All(0), out);
+    let of_place = field(place, of_number, out);
+    if number == 5 {
+        let of_character = field(character, of_place, out);
+        return byte(b'\n', of_character, out);
+    }
+    byte(b'\n', of_place, out)
 }
 
 // Writes inputs, states, couples and the number of marked couples.
@@ -128,7 +134,9 @@ fn couples_of(ranks: &[u16], rank: usize) -> usize
 fn rank_line(rank: usize, count: usize, done: Written, out: &mut [u8]) -> Written
     ensures { λ r. ⌜ Adds (rankLine rank count) done r (now (out .entry)) (now (out .exit)) ⌝ }
 {
-    line_of_two(b"RANK", rank, count, done, out)
+    let of_rank = named(b"RANK", rank, done, out);
+    let of_count = field(count, of_rank, out);
+    byte(b'\n', of_count, out)
 }
 
 // Writes a line for each run of a stored plan.
@@ -167,16 +175,6 @@ fn fields(settings: &[u8], done: Written, out: &mut [u8]) -> Written
         i += 1;
     }
     byte(b'\n', written, out)
-}
-
-// Writes a line of a word and two numbers.
-fn line_of_two(name: &[u8], first: usize, second: usize, done: Written, out: &mut [u8]) -> Written
-    ensures { λ r. ⌜ Adds (line (now (name .entry)) (digits first ∷ digits second ∷ [])) done r (now (out .entry)) (now (out .exit)) ⌝ }
-{
-    let of_name = word(name, done, out);
-    let of_first = field(first, of_name, out);
-    let of_second = field(second, of_first, out);
-    byte(b'\n', of_second, out)
 }
 
 // Writes a word and a number behind it.

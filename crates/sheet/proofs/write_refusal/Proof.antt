@@ -6,7 +6,7 @@ use Rattle.sheet.proofs.write_refusal.Statement.{statement}
 use Rattle.sheet.proofs.write_refusal.Tie as tie
 
 whole-requires : tie.Need-whole-requires
-whole-requires c κs = written-whole (c .before .before .refusal .ensures) (omega (arith, refusal-fits (c .before .before .before .before .before .args .answer .number) (c .before .before .before .before .before .args .answer .place) (omega arith) (omega arith)))
+whole-requires c κs = written-whole (c .before .before .refusal .ensures) (omega (arith, refusal-fits (c .before .before .before .before .before .args .answer .number) (c .before .before .before .before .before .args .answer .place) (c .before .before .before .before .before .args .character) (omega arith) (omega arith) (omega arith)))
 
 returns : tie.Need-returns
 returns c = writes-all (c .before .before .before .refusal .ensures) (c .whole .ensures)

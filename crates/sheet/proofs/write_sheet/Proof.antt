@@ -9,7 +9,7 @@ use Rattle.sheet.proofs.write_sheet.Statement.{statement}
 use Rattle.sheet.proofs.write_sheet.Tie as tie
 
 returns : tie.Need-returns
-returns c = record { text = _; is = refused (answers (c .before .before .before .before .before .before .before .before .before .read-here .ensures) (lent mostCouples) (lent mostStates)) (c .before .before .before .before .if1 .taken); writes = c .before .before .write-refusal .ensures }
+returns c = record { text = _; is = refused (answers (c .before .before .before .before .before .before .before .before .before .read-here .ensures) (lent mostCouples) (lent mostStates)) (c .before .before .before .before .before .before .before .before .before .read-here .ensures .character) (c .before .before .before .before .if1 .taken); writes = c .before .before .write-refusal .ensures }
 
 mul-couples : tie.Need-mul-couples
 mul-couples c = omega (arith, table-few (c .before .before .before .before .before .before .before .before .read-here .ensures) (lent mostCouples) (lent mostStates) (c .before .before .before .if1 .left) (c .before .settings .ensures .0 .0))
