@@ -1,5 +1,5 @@
-// Files read into buffers that were lent, mostly the lamp with bytes changed: number and place, the five sizes, then what the table and
-// the words hold, 7 before.
+// Files read into buffers that were lent, mostly the lamp with bytes changed: number, place and character, the five sizes, then what
+// the table and the words hold, 7 before.
 ghost use mathlib.Core.Path.{_≡_};
 ghost use lib.ListN.{length};
 use crate::changes::before;
@@ -246,10 +246,11 @@ fn lent(what: &[u8], file: &[u8], table: &mut [u8], words: &mut [u16]) {
     end();
 }
 
-// The name of a row, the answer, and the sizes.
+// The name of a row, the answer, the character, and the sizes.
 pub(crate) fn told(what: &[u8], contents: Contents) {
     let frame = contents.frame;
     answer(what, contents.answer);
+    number(contents.character as u64);
     word(b"|");
     number(frame.inputs as u64);
     number(contents.outputs as u64);

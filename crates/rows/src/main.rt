@@ -30,6 +30,7 @@ fn files() {
     conditions::unread();
     conditions::letters();
     conditions::parentheses();
+    conditions::characters();
     lamps::rows();
     limits::fewest();
     limits::most();
