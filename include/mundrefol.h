@@ -24,7 +24,8 @@
  *        (kind 5 has at most 255 bytes)
  *    3   a table, word, record, rank or reading buffer too short   needed elements of the first such
  *    4   output bit beyond the outputs; state not below states     record, or couple
- *    5   condition does not read                                   record (kind 5: after the last evolution)
+ *    5   condition does not read                                   record (kind 5: after the last evolution),
+ *                                                                  and beside it the character
  *    6   evolution to its own source                               record
  *    7   same source and target as an earlier evolution            record
  *    8   two rules hold                                            couple
@@ -66,10 +67,13 @@ typedef struct { size_t number, place; } mundrefol_answer;
 typedef struct { size_t inputs, states, initial; uint64_t never[4]; } mundrefol_frame;
 
 /*
- * The answer of reading a file: number and place; outputs, evolutions and frame of the file, all
- * zero on refusal. Without kind 5 no setting is ruled out. The frame goes to the table jobs as it is.
+ * The answer of reading a file: number and place; the character, zero except with 5; outputs, evolutions
+ * and frame of the file, all zero on refusal. The character is the smallest number of leading
+ * characters that no text behind them, however long, makes a condition that reads at these inputs; if
+ * the condition only stops too early, its length + 1. Without kind 5 no setting is ruled out. The frame
+ * goes to the table jobs as it is.
  */
-typedef struct { size_t number, place, outputs, evolutions; mundrefol_frame frame; } mundrefol_contents;
+typedef struct { size_t number, place, character, outputs, evolutions; mundrefol_frame frame; } mundrefol_contents;
 
 /* An evolution of the file: source and target state, place in the file and length of its condition. */
 typedef struct { uint8_t source, target; uint16_t at; uint8_t length; } mundrefol_evolution;

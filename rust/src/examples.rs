@@ -1,8 +1,8 @@
 //! The specification files of the folder `examples/`, as readable descriptions.
 
 use crate::file::{with_contents, File, Leaving, State};
-use crate::generate::padded;
-use crate::plain::TEXT;
+use crate::generate::{nested, padded};
+use crate::plain::{PARENTHESES, TEXT};
 
 /// An example: its name in the folder, and its bytes.
 pub struct Example {
@@ -25,9 +25,12 @@ pub fn all() -> Vec<Example> {
         example("refused-02-long-kind-5", lamp().never(&padded("!a".into(), TEXT + 1)).bytes()),
         example("refused-02-nine-inputs", File { inputs: 9, ..lamp() }.bytes()),
         example("refused-04-output-bit", with_word(lamp(), 1, 3).bytes()),
-        example("refused-05-does-not-read", with_condition(lamp(), 3, "!a+").bytes()),
+        example("refused-05-bad-character", with_condition(gate(), 4, "!c.(b+!d,a)").bytes()),
+        example("refused-05-bad-letter", with_condition(gate(), 0, "c.(b+a)+e.!b").bytes()),
         example("refused-05-kind-5-does-not-read", cutter().never("b.").bytes()),
         example("refused-05-kind-5-is-empty", cutter().never("").bytes()),
+        example("refused-05-ninth-parenthesis", ninth_parenthesis().bytes()),
+        example("refused-05-stops-too-early", with_condition(lamp(), 3, "!a+").bytes()),
         example("refused-06-own-source", own_source().bytes()),
         example("refused-07-same-states", same_states().bytes()),
         example("refused-08-two-rules", with_condition(lamp(), 0, "1").bytes()),
@@ -145,7 +148,7 @@ fn with_word(mut file: File, state: usize, word: u16) -> File {
 }
 
 fn with_condition(mut file: File, record: usize, text: &str) -> File {
-    *file.conditions_mut().nth(record).expect("the file has this record") = text.to_string();
+    *file.condition_mut(record) = text.to_string();
     file
 }
 
@@ -167,6 +170,11 @@ fn wrong_mark() -> Vec<u8> {
     let mut bytes = lamp().bytes();
     bytes[3] = b'9';
     bytes
+}
+
+/// The lamp with the rest of state 1 in one parenthesis too many.
+fn ninth_parenthesis() -> File {
+    with_condition(lamp(), 1, &nested("a", PARENTHESES + 1))
 }
 
 /// The lamp with an evolution from state 1 to itself.

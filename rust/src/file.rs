@@ -64,9 +64,24 @@ impl File {
         rests.chain(leaving).chain(&mut self.never)
     }
 
+    /// The condition of a record of the file, to be changed.
+    pub fn condition_mut(&mut self, record: usize) -> &mut String {
+        self.conditions_mut().nth(record).expect("the record is one of the file's")
+    }
+
     /// The file's bytes.
     pub fn bytes(&self) -> Vec<u8> {
         with_contents(&self.bodies())
+    }
+
+    /// The file's bytes with any bytes as the condition of a record.
+    pub fn bytes_with(mut self, record: usize, text: &[u8]) -> Vec<u8> {
+        *self.condition_mut(record) = "0".repeat(text.len());
+        let texts: usize = self.conditions_mut().skip(record).map(|text| text.len()).sum();
+        let mut bytes = self.bytes();
+        let at = bytes.len() - texts;
+        bytes[at..at + text.len()].copy_from_slice(text);
+        bytes
     }
 
     /// The bodies with their kinds. A number too large for its bytes is written without its high

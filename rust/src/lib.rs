@@ -30,11 +30,13 @@ pub struct Frame {
     pub never: [u64; WORDS],
 }
 
-/// The answer of reading a file; outputs, evolutions and frame of the file, all zero on refusal.
+/// The answer of reading a file; the character with refusal 5 alone; outputs, evolutions and frame of
+/// the file, all zero on refusal.
 #[repr(C)]
 #[derive(Clone, Copy, Debug, Default, PartialEq, Eq)]
 pub struct Contents {
     pub answer: Answer,
+    pub character: usize,
     pub outputs: usize,
     pub evolutions: usize,
     pub frame: Frame,
@@ -82,7 +84,7 @@ pub struct Noted {
 const _: () = {
     assert!(size_of::<Answer>() == 2 * size_of::<usize>());
     assert!(size_of::<Frame>() == 3 * size_of::<usize>() + 32);
-    assert!(size_of::<Contents>() == 4 * size_of::<usize>() + size_of::<Frame>());
+    assert!(size_of::<Contents>() == 5 * size_of::<usize>() + size_of::<Frame>());
     assert!(size_of::<Evolution>() == 6);
     assert!(size_of::<Entry>() == 6);
     assert!(size_of::<Log>() == 204);

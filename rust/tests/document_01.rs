@@ -82,7 +82,8 @@ fn lamp_file() {
     }
     let Read { contents, table, words, records } = read(&bytes);
     let frame = Frame { inputs: 1, states: 2, ..Frame::default() };
-    let right = Contents { answer: Answer::done(0), outputs: 1, evolutions: 2, frame };
+    let right =
+        Contents { answer: Answer::done(0), character: 0, outputs: 1, evolutions: 2, frame };
     assert_eq!(contents, right);
     assert_eq!(table[..5], [0, 1, 0, 1, 77]);
     assert_eq!(words[..3], [0, 1, 7_777]);

@@ -170,7 +170,7 @@ const CONTENTS_WRONG: &str =
     "1: the file is too long or too short, or its mark, contents or end are wrong";
 
 /// What the script says of each refused example: the refusal's number, then its words.
-const EXPLAINED: [(&str, &str); 20] = [
+const EXPLAINED: [(&str, &str); 23] = [
     ("refused-01-kind-4-twice", CONTENTS_WRONG),
     ("refused-01-kinds-1-2-3-5", CONTENTS_WRONG),
     ("refused-01-six-entries", CONTENTS_WRONG),
@@ -191,16 +191,39 @@ const EXPLAINED: [(&str, &str); 20] = [
         "4: state 1 has the output word 3, with a bit beyond the outputs (1)",
     ),
     (
-        "refused-05-does-not-read",
-        r#"5: the condition of evolution 1, from state 1 to 0, does not read: "!a+""#,
+        "refused-05-bad-character",
+        "5: evolution 1, from state 0 to 2, does not read at character 9
+    !c.(b+!d,a)
+            ^ only +, . or ) can stand here",
+    ),
+    (
+        "refused-05-bad-letter",
+        "5: the rest condition of state 0 does not read at character 9
+    c.(b+a)+e.!b
+            ^ the file has no input e; its last is d",
     ),
     (
         "refused-05-kind-5-does-not-read",
-        r#"5: the condition of kind 5, settings never used, does not read: "b.""#,
+        "5: the condition of kind 5, settings never used, does not read at character 3
+    b.
+      ^ the condition stops here; a factor must follow",
     ),
     (
         "refused-05-kind-5-is-empty",
-        r#"5: the condition of kind 5, settings never used, does not read: """#,
+        "5: the condition of kind 5, settings never used, does not read at character 1\n    \n    \
+         ^ the condition is empty; a factor must follow",
+    ),
+    (
+        "refused-05-ninth-parenthesis",
+        "5: the rest condition of state 1 does not read at character 9
+    (((((((((a)))))))))
+            ^ a ninth parenthesis; at most 8 may be open",
+    ),
+    (
+        "refused-05-stops-too-early",
+        "5: evolution 1, from state 1 to 0, does not read at character 4
+    !a+
+       ^ the condition stops here; a factor must follow",
     ),
     ("refused-06-own-source", r#"6: evolution 2, from state 1 to 1, leads to its own source: "a""#),
     (

@@ -1,6 +1,7 @@
 /*
  * The lamp through the entry points, as C and as C++: layouts, reading, evolutions, marks, plan, run,
- * the plan shortened, readings, log; and the lamp with a setting that is never used.
+ * the plan shortened, readings, log; and the lamp with a setting that is never used, and with
+ * conditions that do not read.
  */
 
 #include <assert.h>
@@ -17,11 +18,12 @@ static_assert(sizeof(mundrefol_frame) == 3 * WORD + 32, "frame");
 static_assert(offsetof(mundrefol_frame, states) == WORD, "frame.states");
 static_assert(offsetof(mundrefol_frame, initial) == 2 * WORD, "frame.initial");
 static_assert(offsetof(mundrefol_frame, never) == 3 * WORD, "frame.never");
-static_assert(sizeof(mundrefol_contents) == 4 * WORD + sizeof(mundrefol_frame), "contents");
+static_assert(sizeof(mundrefol_contents) == 5 * WORD + sizeof(mundrefol_frame), "contents");
 static_assert(offsetof(mundrefol_contents, place) == WORD, "contents.place");
-static_assert(offsetof(mundrefol_contents, outputs) == 2 * WORD, "contents.outputs");
-static_assert(offsetof(mundrefol_contents, evolutions) == 3 * WORD, "contents.evolutions");
-static_assert(offsetof(mundrefol_contents, frame) == 4 * WORD, "contents.frame");
+static_assert(offsetof(mundrefol_contents, character) == 2 * WORD, "contents.character");
+static_assert(offsetof(mundrefol_contents, outputs) == 3 * WORD, "contents.outputs");
+static_assert(offsetof(mundrefol_contents, evolutions) == 4 * WORD, "contents.evolutions");
+static_assert(offsetof(mundrefol_contents, frame) == 5 * WORD, "contents.frame");
 static_assert(sizeof(mundrefol_evolution) == 6, "evolution");
 static_assert(offsetof(mundrefol_evolution, target) == 1, "evolution.target");
 static_assert(offsetof(mundrefol_evolution, at) == 2, "evolution.at");
@@ -81,7 +83,8 @@ static mundrefol_frame check_read(uint8_t table[5], uint16_t words[3], mundrefol
 {
     mundrefol_contents contents = mundrefol_read(lamp, sizeof lamp, table, 5, words, 3, records, 3);
     mundrefol_frame frame = contents.frame;
-    CHECK(contents.number == 0 && contents.place == 0 && contents.outputs == 1 && contents.evolutions == 2);
+    CHECK(contents.number == 0 && contents.place == 0 && contents.character == 0);
+    CHECK(contents.outputs == 1 && contents.evolutions == 2);
     CHECK(frame.inputs == 1 && frame.states == 2 && frame.initial == 0 && rules_out(frame, 0));
     CHECK(memcmp(table, "\0\1\0\1\x63", 5) == 0);
     CHECK(words[0] == 0 && words[1] == 1 && words[2] == 99);
@@ -90,11 +93,25 @@ static mundrefol_frame check_read(uint8_t table[5], uint16_t words[3], mundrefol
     CHECK(records[2].source == 99 && records[2].at == 99);
     show("table", table, 4);
     contents = mundrefol_read(lamp, sizeof lamp - 1, table, 5, words, 3, records, 3);
-    CHECK(contents.number == 1 && contents.place == 0 && contents.outputs == 0 && contents.evolutions == 0);
+    CHECK(contents.number == 1 && contents.place == 0 && contents.character == 0);
+    CHECK(contents.outputs == 0 && contents.evolutions == 0);
     CHECK(contents.frame.inputs == 0 && contents.frame.states == 0 && contents.frame.initial == 0);
     contents = mundrefol_read(lamp, sizeof lamp, table, 3, words, 3, records, 3);
-    CHECK(contents.number == 3 && contents.place == 4);
+    CHECK(contents.number == 3 && contents.place == 4 && contents.character == 0);
     return frame;
+}
+
+/* Reads the lamp, with kind 5, with another character at a place of the file: the condition of a record does not read. */
+static void check_unread(size_t at, uint8_t with, size_t record, size_t character)
+{
+    uint8_t file[sizeof never_on], table[4];
+    uint16_t words[2];
+    mundrefol_evolution records[2];
+    memcpy(file, never_on, sizeof file);
+    file[at] = with;
+    mundrefol_contents contents = mundrefol_read(file, sizeof file, table, 4, words, 2, records, 2);
+    CHECK(contents.number == 5 && contents.place == record && contents.character == character);
+    CHECK(contents.outputs == 0 && contents.evolutions == 0 && contents.frame.states == 0);
 }
 
 static void check_evolutions(const mundrefol_evolution *records)
@@ -220,6 +237,10 @@ int main(void)
     mundrefol_evolution records[3] = {{99, 99, 99, 99}, {99, 99, 99, 99}, {99, 99, 99, 99}};
     mundrefol_frame frame = check_read(table, words, records);
     check_evolutions(records);
+    check_unread(46, 'a', 0, 2);
+    check_unread(47, '!', 0, 3);
+    check_unread(49, 'b', 2, 1);
+    check_unread(52, ' ', 4, 1);
     check_runs(frame, table);
     check_shorten(frame, table);
     check_readings(frame, table, words);

@@ -4,6 +4,7 @@ use super::contents::{first_body, other_bodies, recount, shift_entry, wrap_conte
 use super::files::{largest_file, random_file, settled_file};
 use super::never::spoil_never;
 use super::texts::{nested, random_condition};
+use super::unreadable::unreadable;
 use super::Random;
 use crate::file::{with_contents, File, Leaving, State};
 use crate::plain::{FILE, INPUTS, OUTPUTS, STATES, TEXT};
@@ -30,13 +31,9 @@ fn spoil(random: &mut Random, file: &mut File) {
     }
 }
 
-fn text_of(file: &mut File, record: usize) -> &mut String {
-    file.conditions_mut().nth(record).expect("the record is one of the file's")
-}
-
 /// Changes, inserts or takes out one character.
 fn spoil_text(random: &mut Random, file: &mut File, record: usize) {
-    let text = text_of(file, record);
+    let text = file.condition_mut(record);
     let sign = char::from(*random.pick(b"abcdefghi01!().+ A\n,"));
     let at = random.below(text.len() + 1);
     match random.below(3) {
@@ -49,7 +46,7 @@ fn spoil_text(random: &mut Random, file: &mut File, record: usize) {
 
 /// Puts the text into up to ten parentheses, or cuts it off.
 fn wrap_text(random: &mut Random, file: &mut File, record: usize) {
-    let text = text_of(file, record);
+    let text = file.condition_mut(record);
     let parentheses = random.between(0, 10);
     if random.once_in(5) {
         text.truncate(random.below(text.len() + 1));
@@ -60,7 +57,7 @@ fn wrap_text(random: &mut Random, file: &mut File, record: usize) {
 
 fn replace_text(random: &mut Random, file: &mut File, record: usize) {
     let inputs = usize::from(file.inputs).max(1);
-    *text_of(file, record) = match random.below(5) {
+    *file.condition_mut(record) = match random.below(5) {
         0 => "0".to_string(),
         1 => "1".to_string(),
         2 => "!".repeat(random.below(20)) + "a",
@@ -165,11 +162,21 @@ pub fn damaged(random: &mut Random) -> Vec<u8> {
     if of_bytes && random.once_in(4) {
         return with_contents(&other_bodies(random, &file));
     }
-    let mut bytes = file.bytes();
+    let mut bytes = if random.once_in(8) { with_unreadable(random, file) } else { file.bytes() };
     if of_bytes {
         spoil_bytes(random, &mut bytes);
     }
     bytes
+}
+
+/// The file with a condition that does not read.
+fn with_unreadable(random: &mut Random, mut file: File) -> Vec<u8> {
+    let records = file.conditions_mut().count();
+    if records == 0 {
+        return file.bytes();
+    }
+    let text = unreadable(random, usize::from(file.inputs).clamp(1, INPUTS));
+    file.bytes_with(random.below(records), &text)
 }
 
 /// Files at and beyond the limits: sizes, evolutions, texts.

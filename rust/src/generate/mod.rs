@@ -7,13 +7,27 @@ mod never;
 mod plans;
 mod tables;
 mod texts;
+mod unreadable;
 
 pub use damage::damaged;
 pub use files::{file_of_regions, largest_file, random_bytes, random_file, settled_file};
 pub use never::{any_set, never_text, set_of};
 pub use plans::{any_plan, any_runs, plan_of, runs_of, spoil_run, stored, walk};
 pub use tables::{any_table, longest_table, sizes, Regions, Table};
-pub use texts::{dressed, nested, padded, random_condition, sum_of_products};
+pub use texts::{all_texts, dressed, nested, padded, random_condition, sum_of_products};
+pub use unreadable::unreadable;
+
+/// Every list of `length` numbers below `limit`.
+pub fn all_lists(limit: usize, length: usize) -> impl Iterator<Item = Vec<u8>> {
+    (0..limit.pow(length as u32)).map(move |mut code| {
+        let digit = |_| {
+            let digit = code % limit;
+            code /= limit;
+            digit as u8
+        };
+        (0..length).map(digit).collect()
+    })
+}
 
 /// A splitmix64 sequence.
 #[derive(Clone)]

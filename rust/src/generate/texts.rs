@@ -1,6 +1,6 @@
 //! Conditions as texts: sums of products, in many dresses, and random ones.
 
-use super::Random;
+use super::{all_lists, Random};
 use crate::plain::{PARENTHESES, TEXT};
 
 /// A product: the inputs it names, and those of them that are on.
@@ -162,6 +162,12 @@ pub fn dressed(products: &[Product], random: &mut Random) -> String {
     } else {
         sum_of_products(products)
     }
+}
+
+/// Every text of so many characters of an alphabet.
+pub fn all_texts(alphabet: &[u8], length: usize) -> impl Iterator<Item = Vec<u8>> + '_ {
+    let text = |list: Vec<u8>| list.into_iter().map(|at| alphabet[usize::from(at)]).collect();
+    all_lists(alphabet.len(), length).map(text)
 }
 
 /// The text in that many parentheses.

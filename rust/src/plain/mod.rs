@@ -3,6 +3,7 @@
 //! Each function has the signature of the library's wrapper of the same name and leaves the same in
 //! every lent buffer, after refusals too.
 
+mod character;
 mod condition;
 mod contents;
 mod evolution;

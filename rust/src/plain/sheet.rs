@@ -29,7 +29,7 @@ pub fn lines(jobs: Jobs, file: &[u8]) -> Vec<u8> {
     let contents =
         (jobs.read)(file, &mut table, &mut [0; STATES], &mut [Evolution::default(); EVOLUTIONS]);
     if contents.answer.number != 0 {
-        write_refusal(&mut text, contents.answer);
+        write_refusal(&mut text, contents.answer, contents.character);
         return text;
     }
     let frame = contents.frame;
@@ -37,7 +37,7 @@ pub fn lines(jobs: Jobs, file: &[u8]) -> Vec<u8> {
     let mut plan = vec![0; PLAN];
     let answer = (jobs.plan)(frame, &table, &mut ranks, &mut plan);
     if answer.number != 0 {
-        write_refusal(&mut text, answer);
+        write_refusal(&mut text, answer, 0);
         return text;
     }
     write_ranks(&mut text, frame, &ranks[..frame.couples()]);
@@ -54,8 +54,11 @@ fn write_line(text: &mut Vec<u8>, word: &str, numbers: &[usize]) {
     text.push(b'\n');
 }
 
-fn write_refusal(text: &mut Vec<u8>, answer: Answer) {
-    write_line(text, "REFUSED", &[answer.number, answer.place]);
+/// Adds the line of a refusal, which has the character for 5 alone.
+fn write_refusal(text: &mut Vec<u8>, answer: Answer, character: usize) {
+    let fields = [answer.number, answer.place, character];
+    let count = if answer.number == 5 { 3 } else { 2 };
+    write_line(text, "REFUSED", &fields[..count]);
 }
 
 fn write_ranks(text: &mut Vec<u8>, frame: Frame, ranks: &[u16]) {

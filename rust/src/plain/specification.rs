@@ -1,5 +1,6 @@
 //! Reading a specification file: checks 1 to 13, its table, words and records.
 
+use super::character::character;
 use super::condition::holds;
 use super::contents::{Bodies, RECORD_BYTES};
 use super::machine::Machine;
@@ -26,13 +27,13 @@ pub fn read(
     match layout.fill(table, words, records) {
         Ok(frame) => {
             let Layout { outputs, evolutions, .. } = layout;
-            Contents { answer: Answer::done(0), outputs, evolutions, frame }
+            Contents { answer: Answer::done(0), character: 0, outputs, evolutions, frame }
         }
         Err(answer) => {
             table.fill(NO_MOVE);
             words.fill(NO_WORD);
             records.fill(Evolution::default());
-            refused(answer)
+            Contents { character: layout.character(answer), ..refused(answer) }
         }
     }
 }
@@ -106,7 +107,7 @@ impl<'a> Layout<'a> {
         usize::from(self.record(record)[2])
     }
 
-    /// Where each record's condition stands in the file.
+    /// Where each condition stands in the file, that of kind 5 last if there is one.
     fn text_places(&self) -> Vec<Range<usize>> {
         let mut end = self.bodies.texts.start;
         let place = |record| {
@@ -114,7 +115,16 @@ impl<'a> Layout<'a> {
             end += self.text_length(record);
             start..end
         };
-        (0..self.records()).map(place).collect()
+        (0..self.records()).map(place).chain(self.bodies.never.clone()).collect()
+    }
+
+    /// The character at which a condition that 5 refuses does not read; zero with any other refusal.
+    fn character(&self, answer: Answer) -> usize {
+        if answer.number != 5 {
+            return 0;
+        }
+        let text = self.text_places().swap_remove(answer.place);
+        character(&self.file[text], self.frame.inputs)
     }
 
     /// Checks 4 to 13; the buffers have exactly the needed lengths and are filled on the way. The
@@ -128,10 +138,9 @@ impl<'a> Layout<'a> {
         let texts = self.text_places();
         self.copy_records(&texts, words, records);
         self.check_records(words, records)?;
-        let mut conditions = texts.iter().chain(&self.bodies.never);
-        refuse_at(5, conditions.position(|text| self.holds(text, 0).is_none()))?;
+        refuse_at(5, texts.iter().position(|text| self.holds(text, 0).is_none()))?;
         self.check_evolutions(records)?;
-        self.fill_table(&texts, records, table)?;
+        self.fill_table(&texts[..self.records()], records, table)?;
         let machine = Machine { frame: self.used_frame(), moves: table };
         machine.check_transients()?;
         refuse_at(11, (0..words.len()).find(|&state| words[..state].contains(&words[state])))?;

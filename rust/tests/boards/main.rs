@@ -12,23 +12,11 @@ mod steps;
 
 use cases::try_cases;
 use library::Tested;
-use mundrefol::generate::{any_table, longest_table, Random, Table};
+use mundrefol::generate::{all_lists, any_table, longest_table, Random, Table};
 use mundrefol::plain::{INPUTS, UNMARKED};
 use mundrefol::{Answer, Frame};
 use std::collections::BTreeSet;
 use steps::{differ_in_one, has_start, is_run, is_sound, is_used, ranks_by_rounds, starts, visits};
-
-/// Every list of `length` numbers below `limit`.
-fn all_lists(limit: usize, length: usize) -> impl Iterator<Item = Vec<u8>> {
-    (0..limit.pow(length as u32)).map(move |mut code| {
-        let digit = |_| {
-            let digit = code % limit;
-            code /= limit;
-            digit as u8
-        };
-        (0..length).map(digit).collect()
-    })
-}
 
 /// Any two settings, at any number of inputs: a run exactly if one input differs. Of one state every
 /// setting is a start.

@@ -6,7 +6,7 @@ use mundrefol::examples::lamp;
 use mundrefol::file::with_contents;
 use mundrefol::generate::{padded, Random};
 use mundrefol::plain::TEXT;
-use mundrefol::Answer;
+use mundrefol::{Answer, Contents};
 
 const ABSENT: &str = "without kind 5";
 const THERE: &str = "with kind 5";
@@ -36,15 +36,21 @@ fn without_kind_5(file: &[u8]) -> Vec<u8> {
 
 /// The part that kind 5 has in the answer of reading a file. Only 2, 5 and 13 may be other than for
 /// the file without it: too long, not read as the record after the last evolution, no start left.
-pub fn part(file: &[u8], answer: Answer, read: &mut impl FnMut(&[u8]) -> Answer) -> &'static str {
+pub fn part(
+    file: &[u8],
+    contents: Contents,
+    read: &mut impl FnMut(&[u8]) -> Contents,
+) -> &'static str {
+    let answer = contents.answer;
     if file.get(4) != Some(&5) {
         return ABSENT;
     }
     if answer.number == 1 {
         return THERE;
     }
-    let without = read(&without_kind_5(file));
+    let Contents { answer: without, character, .. } = read(&without_kind_5(file));
     if answer == without {
+        assert_eq!(contents.character, character);
         return THERE;
     }
     let after_last = usize::from(file[32]) + two(file, 18) / 3;
@@ -57,8 +63,12 @@ pub fn part(file: &[u8], answer: Answer, read: &mut impl FnMut(&[u8]) -> Answer)
     CAUSE
 }
 
+fn read_from(file: &[u8]) -> Contents {
+    read_into(&mut Random::new(cases::seed()), file, MOST)
+}
+
 fn number_of(file: &[u8]) -> usize {
-    read_into(&mut Random::new(cases::seed()), file, MOST).number
+    read_from(file).answer.number
 }
 
 /// Of all lists of up to five kinds, and of all rising ones, two are contents.
@@ -123,17 +133,19 @@ fn every_count_and_first_offset() {
 fn conditions_of_kind_5() {
     let starts_left = ["0", "a", "a.!a", "!!a", "((((((((a))))))))", &padded("a".into(), TEXT)];
     let no_start = ["1", "!a", "a+!a", &padded("1".into(), TEXT)];
-    let unread = ["", "b", "a+", "()", "a ", "(((((((((a)))))))))", &padded("A".into(), TEXT)];
+    let unread = ["", "b", &padded("A".into(), TEXT)];
     let long = [&padded("!a".into(), TEXT + 1)[..], &"a".repeat(300), &"(".repeat(60_000)];
-    let with = |texts: &[&str], answer: Answer| {
+    let with = |texts: &[&str], answer: Answer, character: usize| {
         for text in texts {
-            let file = lamp().never(text).bytes();
-            let read = read_into(&mut Random::new(cases::seed()), &file, MOST);
-            assert_eq!(read, answer, "{text}");
+            let read = read_from(&lamp().never(text).bytes());
+            assert_eq!((read.answer, read.character), (answer, character), "{text}");
         }
     };
-    with(&starts_left, Answer::done(0));
-    with(&no_start, Answer::refused(13, 0));
-    with(&unread, Answer::refused(5, 4));
-    with(&long, Answer::refused(2, 0));
+    with(&starts_left, Answer::done(0), 0);
+    with(&no_start, Answer::refused(13, 0), 0);
+    with(&unread, Answer::refused(5, 4), 1);
+    with(&["()", "a "], Answer::refused(5, 4), 2);
+    with(&["a+"], Answer::refused(5, 4), 3);
+    with(&["(((((((((a)))))))))"], Answer::refused(5, 4), 9);
+    with(&long, Answer::refused(2, 0), 0);
 }

@@ -10,6 +10,7 @@ mod log;
 mod read;
 mod shorten;
 mod tables;
+mod unread;
 
 use std::fmt::Debug;
 

@@ -8,7 +8,7 @@ use mundrefol::file::File;
 use mundrefol::generate::{damaged, largest_file, padded};
 use mundrefol::generate::{random_bytes, random_file, settled_file, Random};
 use mundrefol::plain::{COUPLES, EVOLUTIONS, FILE, INPUTS, STATES, TEXT};
-use mundrefol::{plain, Answer};
+use mundrefol::{plain, Contents};
 
 const READ: usize = 24_000;
 
@@ -59,7 +59,7 @@ fn read_at_the_limits() {
     ];
     for (file, number) in files {
         let mut random = Random::new(cases::seed());
-        assert_eq!(read_into(&mut random, &file, MOST).number, number);
+        assert_eq!(read_into(&mut random, &file, MOST).answer.number, number);
     }
 }
 
@@ -82,13 +82,13 @@ fn asked_lengths(file: &[u8]) -> (usize, usize, usize) {
 fn read_both(random: &mut Random, file: &[u8]) -> (usize, &'static str) {
     let (couples, states, evolutions) = asked_lengths(file);
     let lengths = (length(random, couples), length(random, states), length(random, evolutions));
-    let answer = read_into(random, file, lengths);
+    let contents = read_into(random, file, lengths);
     let mut without = |file: &[u8]| read_into(random, file, lengths);
-    (answer.number, kind_5::part(file, answer, &mut without))
+    (contents.answer.number, kind_5::part(file, contents, &mut without))
 }
 
 /// Reads a file by both into buffers of these lengths.
-pub fn read_into(random: &mut Random, file: &[u8], lengths: (usize, usize, usize)) -> Answer {
+pub fn read_into(random: &mut Random, file: &[u8], lengths: (usize, usize, usize)) -> Contents {
     let mut table = junk_bytes(random, lengths.0);
     let mut words = junk_words(random, lengths.1);
     let mut records = junk_records(random, lengths.2);
@@ -100,5 +100,5 @@ pub fn read_into(random: &mut Random, file: &[u8], lengths: (usize, usize, usize
     assert_same("table", &table, &plain_table);
     assert_same("words", &words, &plain_words);
     assert_same("records", &records, &plain_records);
-    contents.answer
+    contents
 }

@@ -1,12 +1,11 @@
 //! The script `sheet`: status, standard output and standard error, on the examples and damaged files
 //! with the program, and on programs that fail.
 
+#[path = "../cases/mod.rs"]
 mod cases;
+mod refusals;
 
-use cases::try_cases;
-use mundrefol::file::File;
-use mundrefol::generate::damaged;
-use mundrefol::{examples, plain};
+use mundrefol::examples;
 use std::fs;
 use std::os::unix::fs::PermissionsExt;
 use std::path::{Path, PathBuf};
@@ -113,6 +112,9 @@ fn failing_programs() {
     let whole = printing("whole", lamp, "exit 0");
     assert_eq!((status(&whole), &whole.stdout[..]), (0, lamp.as_bytes()));
     assert_eq!(status(&printing("refusal", "REFUSED 8 1\n", "exit 0")), 1);
+    let unread = printing("refusal-5", "REFUSED 5 67 89\n", "exit 0");
+    assert!(status(&unread) == 1 && words(&unread).contains(" is refused by 5: "));
+    assert!(words(&unread).contains(" does not read at character 89\n"));
     let mut wrong: Vec<&str> = (0..lamp.len()).map(|end| &lamp[..end]).collect();
     wrong.retain(|printed| !printed.ends_with('\n'));
     wrong.extend(["REFUSED 8 1", "REFUSED 8 1\nR", "\n", "SHEET\n", " INPUTS 1\n", "\nINPUTS 1\n"]);
@@ -123,120 +125,6 @@ fn failing_programs() {
         assert_failed(&printing(&format!("end-{index}"), lamp, end));
         assert_failed(&printing(&format!("refused-end-{index}"), "REFUSED 8 1\n", end));
     }
-}
-
-/// Two bytes of a file, low byte first; 0 beyond its end.
-fn two(file: &[u8], at: usize) -> usize {
-    file.get(at..at + 2).map_or(0, |bytes| usize::from(bytes[0]) + 256 * usize::from(bytes[1]))
-}
-
-/// Words that the explanation of a refusal has: those of the couple or evolution, or the place.
-fn named(file: &[u8], number: usize, place: usize) -> String {
-    let sizes = two(file, 6);
-    let states = || usize::from(file[sizes + 2]);
-    match number {
-        1 | 2 | 13 => String::new(),
-        8..=10 => {
-            let settings = 1 << file[sizes];
-            format!("state {} at setting {} (", place / settings, place % settings)
-        }
-        5 if place == states() + two(file, 18) / 3 => "the condition of kind 5, ".to_string(),
-        4..=7 if place >= states() => {
-            let evolution = place - states();
-            let (source, target) =
-                (two(file, 16) + 3 * evolution, two(file, 16) + 3 * evolution + 1);
-            format!("evolution {evolution}, from state {} to {}, ", file[source], file[target])
-        }
-        16 => format!(" {place} bytes"),
-        _ => format!("state {place} "),
-    }
-}
-
-/// What the script says of a refused file, from the refusal's number on.
-fn explained(file: &File) -> String {
-    let path = PathBuf::from(env!("CARGO_TARGET_TMPDIR")).join("explained");
-    fs::write(&path, file.bytes()).expect("the file is written");
-    let said = words(&sheet(&root(), &[path.to_str().expect("the path is text")]));
-    let (_, said) = said.split_once(" is refused by ").expect("the file is refused");
-    said.trim_end().to_string()
-}
-
-/// Conditions as they are shown, and settings by the inputs that are on, without kind 5 and with it.
-#[test]
-fn words_of_a_refusal() {
-    let file = |inputs: u8, rest: &str, condition: &str| {
-        File::new(inputs, 1, &[(0, rest), (1, "1")], &[(0, 1, condition)])
-    };
-    let both = |file: File, said: &str| {
-        assert_eq!(explained(&file), said);
-        assert_eq!(explained(&file.never("a+0")), said);
-    };
-    for (text, shown) in [
-        ("", ""),
-        ("a\n", r"a\0a"),
-        ("\u{0}\u{7f}~ ", r"\00\7f~ "),
-        ("$(no)`no`'\"%s\\", r#"$(no)`no`'"%s\5c"#),
-        ("é", r"\c3\a9"),
-    ] {
-        let unread = |what: &str| format!("5: the {what} does not read: \"{shown}\"");
-        both(file(1, text, "a"), &unread("rest condition of state 0"));
-        both(file(1, "!a", text), &unread("condition of evolution 0, from state 0 to 1,"));
-        let never = unread("condition of kind 5, settings never used,");
-        assert_eq!(explained(&file(1, "!a", "a").never(text)), never);
-    }
-    for (inputs, rest, place) in [
-        (3, "!(a.!b.c)", "state 0 at setting 5 (a, c on)"),
-        (8, "!h+!g+a", "state 0 at setting 192 (g, h on)"),
-        (1, "a", "state 0 at setting 0 (no input on)"),
-    ] {
-        both(file(inputs, rest, "0"), &format!("9: no rule holds for {place}"));
-    }
-}
-
-/// Sizes and starts with kind 5: its length where that is over 255, and the settings that are left.
-#[test]
-fn words_of_kind_5() {
-    let sizes = |inputs: u8| {
-        format!(
-            "2: a size is outside its range, or the sizes do not agree with the bodies: \
-             inputs {inputs}, outputs 1, states 2, initial state 0"
-        )
-    };
-    let never = "the condition of kind 5, settings never used,";
-    let lamp = |inputs: u8, text: &str| File { inputs, ..examples::lamp() }.never(text);
-    assert_eq!(explained(&lamp(9, &"a".repeat(255))), sizes(9));
-    let long = format!("{}; {never} has 300 bytes, over 255", sizes(1));
-    assert_eq!(explained(&lamp(1, &"a".repeat(300))), long);
-    let no_start = "13: there is no start: the initial state 0 rests at no setting that is left";
-    assert_eq!(explained(&lamp(1, "!a")), no_start);
-}
-
-/// Whatever is wrong with a file: its refusal, and one line of plain characters that names the place.
-#[test]
-fn damaged_files_are_explained() {
-    let path = PathBuf::from(env!("CARGO_TARGET_TMPDIR")).join("damaged");
-    let path = path.to_str().expect("the path is text");
-    try_cases("script", 250, &[0, 1], |random| {
-        let file = damaged(random);
-        let right = plain::sheet(&file);
-        fs::write(path, &file).expect("the file is written");
-        let output = sheet(&root(), &[path]);
-        assert!(output.stdout == right);
-        let Some(refusal) = right.strip_prefix(b"REFUSED ") else {
-            assert_eq!((status(&output), words(&output).as_str()), (0, ""));
-            return 0;
-        };
-        assert_eq!(status(&output), 1);
-        let refusal = String::from_utf8_lossy(refusal);
-        let (number, place) = refusal.trim_end().split_once(' ').expect("a number and a place");
-        let (line, rest) = output.stderr.split_at(output.stderr.len() - 1);
-        assert!(rest == b"\n" && line.iter().all(|byte| (b' '..=b'~').contains(byte)));
-        let said = words(&output);
-        assert!(said.starts_with(&format!("sheet: {path} is refused by {number}: ")), "{said}");
-        let [number, place] = [number, place].map(|it| it.parse().expect("a number"));
-        assert!(said.contains(&named(&file, number, place)), "{said}");
-        1
-    });
 }
 
 /// Without the program, it is built by `rt check sheet`; without `rt`, or if that fails, status 2.

@@ -1,0 +1,189 @@
+//! What the script says of a refused file.
+
+use super::cases::try_cases;
+use super::{root, sheet, status, words};
+use mundrefol::file::File;
+use mundrefol::generate::damaged;
+use mundrefol::{examples, plain};
+use std::fs;
+use std::path::PathBuf;
+use std::thread;
+
+/// Two bytes of a file, low byte first; 0 beyond its end.
+fn two(file: &[u8], at: usize) -> usize {
+    file.get(at..at + 2).map_or(0, |bytes| usize::from(bytes[0]) + 256 * usize::from(bytes[1]))
+}
+
+/// Words that the explanation of a refusal has: those of the couple or evolution, or the place.
+fn named(file: &[u8], number: usize, place: usize) -> String {
+    let sizes = two(file, 6);
+    let states = || usize::from(file[sizes + 2]);
+    match number {
+        1 | 2 | 13 => String::new(),
+        8..=10 => {
+            let settings = 1 << file[sizes];
+            format!("state {} at setting {} (", place / settings, place % settings)
+        }
+        5 if place == states() + two(file, 18) / 3 => "the condition of kind 5, ".to_string(),
+        4..=7 if place >= states() => {
+            let evolution = place - states();
+            let (source, target) =
+                (two(file, 16) + 3 * evolution, two(file, 16) + 3 * evolution + 1);
+            format!("evolution {evolution}, from state {} to {}, ", file[source], file[target])
+        }
+        16 => format!(" {place} bytes"),
+        _ => format!("state {place} "),
+    }
+}
+
+/// What the script says of a refused file, from the refusal's number on.
+fn explained(file: &[u8]) -> String {
+    let name = format!("explained-{:?}", thread::current().id());
+    let path = PathBuf::from(env!("CARGO_TARGET_TMPDIR")).join(name);
+    fs::write(&path, file).expect("the file is written");
+    let said = words(&sheet(&root(), &[path.to_str().expect("the path is text")]));
+    let (_, said) = said.split_once(" is refused by ").expect("the file is refused");
+    said.trim_end().to_string()
+}
+
+/// Settings by the inputs that are on, without kind 5 and with it.
+#[test]
+fn words_of_a_couple() {
+    for (inputs, rest, place) in [
+        (3, "!(a.!b.c)", "state 0 at setting 5 (a, c on)"),
+        (8, "!h+!g+a", "state 0 at setting 192 (g, h on)"),
+        (1, "a", "state 0 at setting 0 (no input on)"),
+    ] {
+        let file = File::new(inputs, 1, &[(0, rest), (1, "1")], &[(0, 1, "0")]);
+        let said = format!("9: no rule holds for {place}");
+        assert_eq!(explained(&file.bytes()), said);
+        assert_eq!(explained(&file.never("a+0").bytes()), said);
+    }
+}
+
+/// The bytes of a condition that is shown with \ and two digits for a byte that is not plain.
+fn bytes_of(shown: &str) -> Vec<u8> {
+    let mut parts = shown.split('\\');
+    let mut bytes = parts.next().expect("a first part").as_bytes().to_vec();
+    for (digits, plain) in parts.map(|part| part.split_at(2)) {
+        bytes.push(u8::from_str_radix(digits, 16).expect("two digits"));
+        bytes.extend(plain.bytes());
+    }
+    bytes
+}
+
+/// A condition as it is shown, with a caret before the character at which it does not read, in a
+/// state, an evolution and kind 5.
+fn assert_unread(inputs: u8, marked: &str, wrong: &str) {
+    let (before, after) = marked.split_once('^').expect("a caret");
+    let (shown, blanks) = (format!("{before}{after}"), " ".repeat(before.len()));
+    let character = before.len() + 1;
+    let bare = File::new(inputs, 1, &[(0, "!a"), (1, "1")], &[(0, 1, "a")]);
+    let with = bare.clone().never("a+0");
+    for (file, record, name) in [
+        (&bare, 0, "the rest condition of state 0"),
+        (&with, 0, "the rest condition of state 0"),
+        (&bare, 2, "evolution 0, from state 0 to 1,"),
+        (&with, 2, "evolution 0, from state 0 to 1,"),
+        (&with, 3, "the condition of kind 5, settings never used,"),
+    ] {
+        let said = explained(&file.clone().bytes_with(record, &bytes_of(&shown)));
+        let first = format!("5: {name} does not read at character {character}");
+        assert_eq!(said, format!("{first}\n    {shown}\n    {blanks}^ {wrong}"));
+    }
+}
+
+/// What is wrong at the character, and what could stand there.
+#[test]
+fn words_of_a_character() {
+    let stops = "the condition stops here";
+    let open = "open; +, . or ) must follow";
+    let [one, three] = ["the letter a", "a letter a to c"]
+        .map(|letters| format!("a factor must stand here: !, (, 0, 1 or {letters}"));
+    let outside = "only + or . can stand here, or the end";
+    let inside = "only +, . or ) can stand here";
+    for (inputs, marked, wrong) in [
+        (1, "^", "the condition is empty; a factor must follow"),
+        (1, "(a.^", &format!("{stops}; a factor must follow")),
+        (1, "(a^", &format!("{stops} with 1 parenthesis {open}")),
+        (1, "((a)+(0^", &format!("{stops} with 2 parentheses {open}")),
+        (1, "a+^b.a", "the file has no input b; its last is a"),
+        (8, "!^z", "the file has no input z; its last is h"),
+        (1, "((((((((^(a", "a ninth parenthesis; at most 8 may be open"),
+        (1, "((((((((^+a", "a factor must stand here: !, 0, 1 or the letter a"),
+        (1, "(^)", &one),
+        (3, "a.^A", &three),
+        (3, "^ a", &format!("no blanks; {three}")),
+        (2, "a^b", outside),
+        (2, "a^)", &format!("no parenthesis is open; {outside}")),
+        (2, "(a)^ +b", &format!("no blanks; {outside}")),
+        (2, "(a^!b)", inside),
+        (2, "(a^ +b)", &format!("no blanks; {inside}")),
+        (1, r"a^\0a", outside),
+        (1, r"(a^\ff\00)", inside),
+        (1, r"^\00\7f~ ", &one),
+        (1, r#"^$(no)`no`'"%s\5c"#, &one),
+        (1, r"^\c3\a9", &one),
+    ] {
+        assert_unread(inputs, marked, wrong);
+    }
+}
+
+/// Sizes and starts with kind 5: its length where that is over 255, and the settings that are left.
+#[test]
+fn words_of_kind_5() {
+    let sizes = |inputs: u8| {
+        format!(
+            "2: a size is outside its range, or the sizes do not agree with the bodies: \
+             inputs {inputs}, outputs 1, states 2, initial state 0"
+        )
+    };
+    let never = "the condition of kind 5, settings never used,";
+    let lamp = |inputs: u8, text: &str| File { inputs, ..examples::lamp() }.never(text);
+    assert_eq!(explained(&lamp(9, &"a".repeat(255)).bytes()), sizes(9));
+    let long = format!("{}; {never} has 300 bytes, over 255", sizes(1));
+    assert_eq!(explained(&lamp(1, &"a".repeat(300)).bytes()), long);
+    let no_start = "13: there is no start: the initial state 0 rests at no setting that is left";
+    assert_eq!(explained(&lamp(1, "!a").bytes()), no_start);
+}
+
+/// Whatever is wrong with a file: its refusal, and a line of plain characters that names the place; for
+/// 5 two more, the condition and a caret under the character.
+#[test]
+fn damaged_files_are_explained() {
+    let path = PathBuf::from(env!("CARGO_TARGET_TMPDIR")).join("damaged");
+    let path = path.to_str().expect("the path is text");
+    try_cases("script", 250, &[0, 1], |random| {
+        let file = damaged(random);
+        let right = plain::sheet(&file);
+        fs::write(path, &file).expect("the file is written");
+        let output = sheet(&root(), &[path]);
+        assert!(output.stdout == right);
+        let Some(refusal) = right.strip_prefix(b"REFUSED ") else {
+            assert_eq!((status(&output), words(&output).as_str()), (0, ""));
+            return 0;
+        };
+        assert_eq!(status(&output), 1);
+        let said = words(&output);
+        assert!(said.bytes().all(|byte| (b' '..=b'~').contains(&byte) || byte == b'\n'), "{said}");
+        assert_explained(&file, path, &String::from_utf8_lossy(refusal), &said);
+        1
+    });
+}
+
+/// The lines that the script says of a refusal, which is its numbers.
+fn assert_explained(file: &[u8], path: &str, refusal: &str, said: &str) {
+    let numbers = refusal.split_whitespace().map(|it| it.parse().expect("a number"));
+    let numbers: Vec<usize> = numbers.collect();
+    let lines: Vec<&str> = said.strip_suffix('\n').expect("whole lines").split('\n').collect();
+    let (number, place) = (numbers[0], numbers[1]);
+    assert!(lines[0].starts_with(&format!("sheet: {path} is refused by {number}: ")), "{said}");
+    assert!(lines[0].contains(&named(file, number, place)), "{said}");
+    if let [5, _, character] = numbers[..] {
+        let end = format!(" does not read at character {character}");
+        assert!(lines[0].ends_with(&end) && lines[1].starts_with("    "), "{said}");
+        assert_eq!((lines.len(), lines[2].find('^')), (3, Some(character + 3)), "{said}");
+    } else {
+        assert_eq!((lines.len(), numbers.len()), (1, 2), "{said}");
+    }
+}
