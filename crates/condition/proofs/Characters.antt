@@ -16,8 +16,8 @@ use Rattle.condition.specs.Condition.{Reads, CanBeContinued, CharacterOf
 
 module _ {n : ℕ} where
   -- the front of what can be continued, what reads, and no characters at all can be continued
-  front : {w : List ℕ} (i : ℕ) → CanBeContinued n w → CanBeContinued n (take i w)
-  front {w} i x = record {
+  front-on : {w : List ℕ} (i : ℕ) → CanBeContinued n w → CanBeContinued n (take i w)
+  front-on {w} i x = record {
     behind = drop i w ++ x .behind;
     reads = subst (Reads n) (ap (_++ x .behind) (sym (take-append-drop i w)) ∙ append-assoc (take i w) (drop i w) (x .behind)) (x .reads);
   }
@@ -31,13 +31,13 @@ module _ {n : ℕ} where
 
 module _ {n : ℕ} {w : List ℕ} where
   pub character-unread : {k : ℕ} → CharacterOf n w k → Reads n w → ⊥
-  character-unread (cannot {k} x) r = x .here (front k (read-on r))
+  character-unread (cannot {k} x) r = x .here (front-on k (read-on r))
   character-unread (early x none) r = none r
 
   pub character-only : {j k : ℕ} → CharacterOf n w j → CharacterOf n w k → j ≡ k
   character-only (cannot x) (cannot y) = least-unique x y
-  character-only (cannot {k} x) (early y none) = absurd (x .here (front k y))
-  character-only (early x none) (cannot {k} y) = absurd (y .here (front k x))
+  character-only (cannot {k} x) (early y none) = absurd (x .here (front-on k y))
+  character-only (early x none) (cannot {k} y) = absurd (y .here (front-on k x))
   character-only (early x none) (early y none′) = refl
 
   pub character-some : {k : ℕ} → CharacterOf n w k → 1 ≤ k
@@ -65,7 +65,7 @@ module _ {n : ℕ} {w : List ℕ} where
       by : Dec (m < length w) → CharacterOf n w (m + 1)
       by (yes l) = rw add-one (cannot {k = suc m} (record {
         here = dead-on l;
-        first = λ i k none. none (subst (CanBeContinued n) (take-take i m w (omega arith)) (front i alive));
+        first = λ i k none. none (subst (CanBeContinued n) (take-take i m w (omega arith)) (front-on i alive));
       }))
       by (no l) =
           let e : length w ≡ m = omega arith in

@@ -18,20 +18,20 @@ use Rattle.condition.proofs.Parts.{span}
 use Rattle.condition.proofs.Characters.{read-on, stops}
 use Rattle.condition.proofs.Says.{value-says, unread-says}
 
--- a text that reads is a reading up to its end, and the other way round
+-- a text that reads is a reading up to its end, and the text of a reading reads
 all-of : {n : ℕ} {w : List ℕ} → Reads n w → Reading condition n parentheses w []
 all-of x = record { tree = x .tree; spelt = sym (x .spelt) ∙ sym (append-nil (text (x .tree))); nested = x .nested; known = x .known }
 
-of-all : {n : ℕ} {w : List ℕ} → Reading condition n parentheses w [] → Reads n w
-of-all x = record { tree = x .tree; spelt = sym (x .spelt ∙ append-nil (text (x .tree))); nested = x .nested; known = x .known }
+unfoldable reads-as : {n : ℕ} {w r u : List ℕ} (x : Reading condition n parentheses w r) → text (x .tree) ≡ u → Reads n u
+reads-as x e = record { tree = x .tree; spelt = e; nested = x .nested; known = x .known }
 
 module _ {n v : ℕ} (w : List ℕ) where
   pub whole : {b : Bool} {end : ℕ} → end ≡ length w → FoundTo condition n v parentheses w 0 b end → Says n v w (Is b)
+  unfolding reads-as
   whole {end = end} e x =
-      let y = x .reading in
+      let t = text (x .reading .tree) in
       let z : drop end w ≡ [] = drop-of-length-le w {i = end} (omega arith) in
-      let e′ = sym (y .spelt ∙ ap (text (y .tree) ++_) z ∙ append-nil (text (y .tree))) in
-      value-says (record { tree = y .tree; spelt = e′; nested = y .nested; known = y .known }) (x .value)
+      value-says (reads-as (x .reading) (sym (x .reading .spelt ∙ ap (t ++_) z ∙ append-nil t))) (x .value)
 
   pub not-whole : {b : Bool} {end : ℕ} → (end ≡ length w → ⊥) → FoundTo condition n v parentheses w 0 b end → Says n v w (Unread (end + 1))
   not-whole {end = end} ne x =
@@ -40,7 +40,7 @@ module _ {n v : ℕ} (w : List ℕ) where
       let end-is : end ≡ length (text t) = omega (arith, span x) in
       let start : take end w ≡ text t = ap (take end) (x .reading .spelt) ∙ ap (λ (i : ℕ). take i (text t ++ r)) end-is ∙ take-append-seam (text t) r in
       unread-says (stops (x .within)
-      (read-on (record { tree = t; spelt = sym start; nested = x .reading .nested; known = x .reading .known }))
+      (read-on (reads-as (x .reading) (sym start)))
       (λ w′ e y.
       let z = all-of y in
       let q = agree-front (text t) w′ r end 0 (omega arith) (e ∙ ap (take (suc end)) (x .reading .spelt)) in
@@ -50,5 +50,7 @@ module _ {n v : ℕ} (w : List ℕ) where
   pub none : {place : ℕ} → FailedAt condition n parentheses w 0 place → Says n v w (Unread (place + 1))
   none {place} f =
       let y = f .failed in
+      let x = y .alive .1 in
       let e : place ≡ f .passed = omega (arith, f .count) in
-      unread-says (rw e (stops (y .short) (record { behind = y .alive .0; reads = of-all (y .alive .1) }) (λ w′ e x. y .dead w′ [] e nothing-ends (all-of x))))
+      unread-says (rw e (stops (y .short) (record { behind = y .alive .0; reads = reads-as x (sym (x .spelt ∙ append-nil (text (x .tree)))) })
+      (λ w′ e u. y .dead w′ [] e nothing-ends (all-of u))))

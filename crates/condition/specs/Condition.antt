@@ -26,7 +26,7 @@ pub record Holds (n v : ℕ) (w : List ℕ) : Type 0 where
   pub reads : Reads n w
   pub true-there : holds v (reads .tree) ≡ true
 
--- w can be continued, at whatever length: some list behind it makes it read
+-- w can be continued, at whatever length, to a condition that reads at n inputs: some list behind it makes it read
 pub record CanBeContinued (n : ℕ) (w : List ℕ) : Type 0 where
   pub behind : List ℕ
   pub reads : Reads n (w ++ behind)
