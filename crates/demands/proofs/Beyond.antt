@@ -1,17 +1,17 @@
--- What a frame's set holds beyond the settings means nothing to a table job: with two sets that agree below 2^n each promise is met by
+-- What a frame's sets hold beyond the settings means nothing to a table job: with other sets that agree below 2^n each promise is met by
 -- the same answer and the same buffers, row by row of its checks, by the laws of such machines; `mark-only`, `run-to-only`, `plan-only`,
--- `shorten-only` and `only` say that no other answer meets it. The way back is the same law with the two sets exchanged.
+-- `shorten-only` and `only` say that no other answer meets it. The way back is the same law with the sets exchanged.
 use mathlib.Core.Path.{_≡_}
 use mathlib.Core.List.{List, [], _++_}
-use Prim.Native.Nat.{ℕ, _^_, _<_}
+use Prim.Native.Nat.{ℕ, _^_}
 use lib.ListN.{length}
 use Rattle.verdict.specs.Checks.{Check, Judged}
 use Rattle.verdict.specs.declared.Answer.{Answer}
 use Rattle.verdict.proofs.Order.{judged-row, judged-same, unless}
 use Rattle.verdict.proofs.Fills.{left-map, written-map}
-use Rattle.machine.specs.Runs.{Machine, usable, machineOf, size, Starts}
+use Rattle.machine.specs.Runs.{Machine, machineOf, size, Starts}
 use Rattle.machine.specs.declared.Frame.{Frame}
-use Rattle.machine.proofs.Beyond.{Rules, Agree, under, agree-back, rulesOf, withSet, frames-agree, starts-same, marked-same, rank-same, cell-same, run-to-same, plan-same, fault-same, sees-same, visited-same}
+use Rattle.machine.proofs.Beyond.{Rules, Agree, under, agree-back, rulesOf, withSets, SameBelow, frames-agree, starts-same, marked-same, rank-same, cell-same, run-to-same, plan-same, fault-same, sees-same, visited-same}
 use Rattle.marking.specs.Marking.{markChecks, MarkedAs}
 use Rattle.marking.proofs.Once.{mark-only}
 use Rattle.plan.specs.Planning.{ShortRun, RunDone, RunAs, PlanBytes, ShortPlan, PlanDone, PlannedAs}
@@ -54,12 +54,12 @@ module _ (m : Machine) {r q : Rules} (h : Agree (size m) r q) where
   broken-same : {bytes : List ℕ} (p : ℕ) → Broken (under m r) bytes p → Broken (under m q) bytes p
   broken-same p b = record { inside = b .inside; before = b .before; splits = b .splits; refused = λ vs after e. let (i, f) = b .refused vs after e in (i, fault-same m h i f) }
 
-module _ (f : Frame) (never T : List ℕ) (same : (v : ℕ) → v < 2 ^ f .inputs → usable f v ≡ usable (withSet f never) v) where
+module _ (f : Frame) (never starts T : List ℕ) (same : SameBelow (f .inputs) (f .never) never) (allowed : SameBelow (f .inputs) (f .starts) starts) where
   abbrev g : Frame
-  g = withSet f never
+  g = withSets f never starts
 
   to : Agree (2 ^ f .inputs) (rulesOf f) (rulesOf g)
-  to = frames-agree f never same
+  to = frames-agree f never starts same allowed
 
   from : Agree (2 ^ f .inputs) (rulesOf g) (rulesOf f)
   from = agree-back to

@@ -1,17 +1,19 @@
--- What a frame's set holds beyond the settings means nothing: each start and each change asks of one setting below 2^n, so that machines
+-- What a frame's sets hold beyond the settings means nothing: each start and each change asks of one setting below 2^n, so that machines
 -- whose rules agree below it have the same runs, by induction on the run, and so the same marks, ranks, runs to a couple, plan and
 -- faults. The way back is the same law with the two rules exchanged.
-use mathlib.Core.Path.{_≡_, refl, sym, ap, subst, _∙_}
+use mathlib.Core.Path.{_≡_, refl, sym, ap, ap₂, subst, _∙_}
 use mathlib.Core.Logic.{⊎-elim, inl, inr}
 use mathlib.Core.List.{List, [], _∷_}
-use mathlib.Core.Bool.{Bool, _&&_}
+use mathlib.Core.Bool.{Bool, not, _&&_}
 use Prim.Native.Nat.{ℕ, _^_, _<_}
+use lib.ListN.{getD}
 use lib.Dec.{eqb}
+use Rattle.sets.specs.Sets.{member}
 use Rattle.machine.specs.Lists.{In, AtMost}
 use Rattle.machine.specs.Couples.{differing}
-use Rattle.machine.specs.Runs.{Machine, usable, machineOf, size, couple, move, Starts, Changes, Goes, Run, Fault, visitsFrom, visits, Visitor, Marked, Rank, RankOrUnmarked}
+use Rattle.machine.specs.Runs.{Machine, machineOf, size, couple, move, Starts, Changes, Goes, Run, Fault, visitsFrom, visits, Visitor, Marked, Rank, RankOrUnmarked, RanksOf}
 use Rattle.machine.specs.Shortest.{restsFrom, rests, RunTo}
-use Rattle.machine.specs.Plans.{VisitedBy, Plan}
+use Rattle.machine.specs.Plans.{VisitedBy, Plan, SameRuns}
 use Rattle.machine.specs.declared.Frame.{Frame}
 
 -- at which settings a run may start, and from which setting it may change to which
@@ -106,14 +108,32 @@ module _ (m : Machine) {r q : Rules} (h : Agree (size m) r q) where
   fault-same i (Fault.no-start l n) = Fault.no-start l (λ x. n (starts-same m (agree-back h) _ x))
   fault-same i (Fault.no-change l n) = Fault.no-change l (λ x. n (changes-same m (agree-back h) _ _ x))
 
+  ranks-same : (rs : List ℕ) → RanksOf (under m r) rs → RanksOf (under m q) rs
+  ranks-same rs x = record { whole = x .whole; each = λ c h. cell-same c (getD rs c 0) (x .each c h) }
+
+pub same-runs : (m : Machine) {r q : Rules} → Agree (size m) r q → SameRuns (under m r) (under m q)
+same-runs m h = record {
+  runs = λ vs. (run-same m h vs, run-same m (agree-back h) vs);
+  ranks = λ rs. (ranks-same m h rs, ranks-same m (agree-back h) rs);
+  runs-to = λ c vs. (run-to-same m h c vs, run-to-same m (agree-back h) c vs);
+  plans = λ t plan. (plan-same m h, plan-same m (agree-back h));
+}
+
 -- the rules of a frame
 abbrev pub rulesOf : Frame → Rules
 rulesOf f = record { mayStart = machineOf f [] .mayStart; mayChange = machineOf f [] .mayChange }
 
--- a frame with another set
-abbrev pub withSet : Frame → List ℕ → Frame
-withSet f never = record { inputs = f .inputs; states = f .states; initial = f .initial; never = never }
+-- a frame with other sets
+abbrev pub withSets : Frame → List ℕ → List ℕ → Frame
+withSets f never starts = record { inputs = f .inputs; states = f .states; initial = f .initial; never = never; starts = starts }
 
--- frames that rule out the same settings below 2^n have rules that agree below it
-pub frames-agree : (f : Frame) (never : List ℕ) → ((v : ℕ) → v < 2 ^ f .inputs → usable f v ≡ usable (withSet f never) v) → Agree (2 ^ f .inputs) (rulesOf f) (rulesOf (withSet f never))
-frames-agree f never same = record { starts = same; changes = λ v w l. ap (λ (b : Bool). b && eqb (differing (f .inputs) v w) 1) (same w l) }
+-- two sets have the same members below 2^n
+abbrev pub SameBelow : ℕ → List ℕ → List ℕ → Type 0
+SameBelow n a b = (v : ℕ) → v < 2 ^ n → member a v ≡ member b v
+
+-- frames whose sets have the same members below 2^n have rules that agree below it
+pub frames-agree : (f : Frame) (never starts : List ℕ) → SameBelow (f .inputs) (f .never) never → SameBelow (f .inputs) (f .starts) starts → Agree (2 ^ f .inputs) (rulesOf f) (rulesOf (withSets f never starts))
+frames-agree f never starts same allowed = record {
+  starts = λ v l. ap₂ (λ (a b : Bool). a && not b) (allowed v l) (same v l);
+  changes = λ v w l. ap (λ (b : Bool). not b && eqb (differing (f .inputs) v w) 1) (same w l);
+}

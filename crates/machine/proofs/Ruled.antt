@@ -6,6 +6,7 @@ use mathlib.Core.List.{List, [], _∷_}
 use mathlib.Core.Bool.{true, and-eq-true-iff}
 use Prim.Native.Nat.{ℕ, _%_, _<_}
 use Rattle.verdict.proofs.Tests.{true≢false}
+use Rattle.sets.specs.Sets.{member}
 use Rattle.machine.specs.Lists.{In}
 use Rattle.machine.specs.Runs.{Machine, usable, machineOf, RuledOut, size, couple, move, Goes, Run, visitsFrom, visits, Marked, Rank}
 use Rattle.machine.specs.Plans.{VisitedBy, Plan}
@@ -30,7 +31,7 @@ module _ (f : Frame) (T : List ℕ) where
   -- each couple that a run visits is of a setting that is not ruled out
   pub visits-usable : (vs : List ℕ) → Run m vs → (c : ℕ) → In c (visits m vs) → usable f (c % size m) ≡ true
   visits-usable [] r c i = absurd i
-  visits-usable (v ∷ vs) r c i = ⊎-elim (of-setting (m .initial) (r .0 .below) (r .0 .allowed)) (usable-from (m .initial) v vs (r .1) c) i
+  visits-usable (v ∷ vs) r c i = ⊎-elim (of-setting (m .initial) (r .0 .below) (and-eq-true-iff (member (f .starts) v) _ .0 (r .0 .allowed) .1)) (usable-from (m .initial) v vs (r .1) c) i
 
   module _ (c : ℕ) (out : RuledOut f c) where
     pub ruled-unmarked : Marked m c → ⊥

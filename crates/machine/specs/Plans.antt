@@ -1,9 +1,10 @@
 -- The plan and its stored form (document 01, "Runs and ranks"). Assumes nothing: these are definitions.
+use mathlib.Core.Logic.{_↔_}
 use mathlib.Core.List.{List, [], _∷_, _++_}
 use Prim.Native.Nat.{ℕ, zero, suc, _+_, _*_, _/_, _%_}
 use lib.ListN.{length, take, drop}
 use Rattle.machine.specs.Lists.{In}
-use Rattle.machine.specs.Runs.{Machine, visits, Marked}
+use Rattle.machine.specs.Runs.{Machine, Run, visits, Marked, RanksOf}
 use Rattle.machine.specs.Shortest.{RunTo}
 
 -- some run of the list visits c
@@ -33,3 +34,10 @@ split (suc k) (low ∷ high ∷ bs) = take (high * 256 + low) bs ∷ split k (dr
 
 abbrev pub runsIn : List ℕ → List (List ℕ)
 runsIn bs = split (length bs) bs
+
+-- two machines have the same runs, ranks, runs to a couple and plans
+pub record SameRuns (m w : Machine) : Type 0 where
+  pub runs : (vs : List ℕ) → Run m vs ↔ Run w vs
+  pub ranks : (rs : List ℕ) → RanksOf m rs ↔ RanksOf w rs
+  pub runs-to : (c : ℕ) (vs : List ℕ) → RunTo m c vs ↔ RunTo w c vs
+  pub plans : (t : ℕ) (plan : List (List ℕ)) → Plan m t plan ↔ Plan w t plan

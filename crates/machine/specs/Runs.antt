@@ -26,15 +26,19 @@ pub record Machine : Type 0 where
 abbrev pub usable : Frame → ℕ → Bool
 usable f v = not (member (f .never) v)
 
--- the machine of a frame and a table: a run may start at any setting that is not ruled out, and each change is of exactly one input, to
--- a setting that is not
+-- an allowed start of a frame that it does not rule out
+abbrev pub startable : Frame → ℕ → Bool
+startable f v = member (f .starts) v && usable f v
+
+-- the machine of a frame and a table: a run may start at an allowed start that is not ruled out, and each change is of exactly one
+-- input, to a setting that is not
 abbrev pub machineOf : Frame → List ℕ → Machine
 machineOf f table = record {
   inputs = f .inputs;
   states = f .states;
   initial = f .initial;
   table = table;
-  mayStart = λ v. usable f v;
+  mayStart = λ v. startable f v;
   mayChange = λ v w. usable f w && eqb (differing (f .inputs) v w) 1;
 }
 
@@ -47,6 +51,17 @@ bareMachine inputs states initial table = record {
   table = table;
   mayStart = λ v. true;
   mayChange = λ v w. eqb (differing inputs v w) 1;
+}
+
+-- a machine whose runs may start elsewhere
+abbrev pub startingAt : (ℕ → Bool) → Machine → Machine
+startingAt mayStart m = record {
+  inputs = m .inputs;
+  states = m .states;
+  initial = m .initial;
+  table = m .table;
+  mayStart = mayStart;
+  mayChange = m .mayChange;
 }
 
 -- the couple c is one of a setting that a frame rules out

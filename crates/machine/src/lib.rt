@@ -3,16 +3,17 @@ ghost use mathlib.Core.Path.{_≡_};
 ghost use Prim.Native.Nat.{_<_, _≤_, _^_};
 ghost use Rattle.verdict.specs.Checks.{Decides};
 ghost use Rattle.machine.specs.Limits.{mostInputs, mostSettings, Sized};
-ghost use Rattle.machine.specs.Runs.{usable as isUsable};
+ghost use Rattle.machine.specs.Runs.{usable as isUsable, startable as isStartable};
 use sets::WORDS;
 
-// What a table job is told beside the table: the sizes, and the set of the settings that are ruled out.
+// What a table job is told beside the table: the sizes, the set of the settings that are ruled out, and that of the allowed starts.
 #[repr(C)]
 pub struct Frame {
     pub inputs: usize,
     pub states: usize,
     pub initial: usize,
     pub never: [u64; WORDS],
+    pub starts: [u64; WORDS],
 }
 
 // Inputs.
@@ -63,4 +64,15 @@ pub fn usable(frame: Frame, setting: usize) -> bool
 {
     let never = frame.never;
     !sets::has(never, setting)
+}
+
+// Whether a run may start at a setting: it is an allowed start, and the frame does not rule it out.
+pub fn startable(frame: Frame, setting: usize) -> bool
+    ensures { λ r. ⌜ r ≡ isStartable frame setting ⌝ }
+{
+    let starts = frame.starts;
+    if sets::has(starts, setting) {
+        return usable(frame, setting);
+    }
+    false
 }

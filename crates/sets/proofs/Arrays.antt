@@ -4,7 +4,7 @@ use mathlib.Core.Path.{_≡_, refl, sym, ap, subst, _∙_}
 use mathlib.Core.Logic.{⊎-elim}
 use mathlib.Core.Bool.{Bool, _||_}
 use mathlib.Core.List.{List, [], _∷_}
-use Prim.Native.Nat.{ℕ, zero, suc, _+_, _*_, _^_, _<_}
+use Prim.Native.Nat.{ℕ, zero, suc, _+_, _*_, _^_, _≤_, _<_}
 use native.Mathlib.Nat.{le-refl}
 use native.Mathlib.Omega.{arith}
 use mir.Syntax.{w64}
@@ -19,7 +19,7 @@ use lib.Dec.{eqb, lit<}
 use lib.Bits.{bitOr, or-lt}
 use borrow.Author.Tests.{eq-eqb, ne-eqb}
 use Rattle.verdict.specs.Checks.{Decides}
-use Rattle.verdict.proofs.Tests.{it-holds, it-fails, decides-or, decides-equal, decides-below, decides-unique}
+use Rattle.verdict.proofs.Tests.{it-holds, it-fails, decides-map, decides-or, decides-equal, decides-below, decides-unique}
 use Rattle.sets.specs.Sets.{member, Words, SetOf}
 use Rattle.sets.proofs.Members.{zeros, member-none, member-beyond, set-only}
 
@@ -49,6 +49,10 @@ set-of-only {n} {m} {P} {a} {b} x y = set-only (x .array) (y .array) (λ v. ⊎-
     (λ l. decides-unique (P v) (member a v) (member b v) (x .each v l) (y .each v l))
     (λ (l : v < m → ⊥). x .beyond v (omega arith) ∙ sym (y .beyond v (omega arith)))
     (decides-or (decides-below v m)))
+
+-- and that of whatever holds at the same settings
+pub set-same : {n m : ℕ} {P Q : ℕ → Type 0} {s : List ℕ} → ((v : ℕ) → P v → Q v) → ((v : ℕ) → Q v → P v) → SetOf n m P s → SetOf n m Q s
+set-same f g x = record { array = x .array; each = λ v l. decides-map (f v) (g v) (x .each v l); beyond = x .beyond }
 
 module _ {P : ℕ → Type 0} where
   -- of what holds nowhere it is empty
@@ -80,5 +84,16 @@ module _ {P : ℕ → Type 0} where
           (λ q. subst (λ (u : ℕ). Decides (P u) (member a u)) (sym q) (subst (Decides (P s)) (sym (x .beyond s (le-refl s))) (it-fails none)))
           (λ (q : v ≡ s → ⊥). x .each v (omega arith))
           (decides-or (decides-equal v s));
+      beyond = λ v l. x .beyond v (omega arith);
+    }
+
+    -- of more settings it is the same, where nothing more holds
+    pub set-wide : (m : ℕ) → s ≤ m → ((v : ℕ) → s ≤ v → P v → ⊥) → SetOf n m P a
+    set-wide m h none = record {
+      array = x .array;
+      each = λ v l. ⊎-elim
+          (λ k. x .each v k)
+          (λ (k : v < s → ⊥). let o : s ≤ v = omega arith in subst (Decides (P v)) (sym (x .beyond v o)) (it-fails (none v o)))
+          (decides-or (decides-below v s));
       beyond = λ v l. x .beyond v (omega arith);
     }

@@ -48,7 +48,7 @@ module _ {file : List ℕ} {tableRoom wordRoom recordRoom : ℕ} {a : Answer} (v
     ruled : Ruled file (sizesOf file) table
     ruled = record { leads = leads-below file (sizesOf file) (passes .1 .1 .1 .1 .1 .0); single = passes .1 .1 .1 .1 .1 .1 .1 .1 .1 .0; moves = each }
 
-    framed-accepted : Checked (machineOf (framed (sizesOf file) (f .never)) table) × Passes (startChecks (machineOf (framed (sizesOf file) (f .never)) table))
+    framed-accepted : Checked (machineOf (framed (sizesOf file) (f .never) (f .starts)) table) × Passes (startChecks (machineOf (framed (sizesOf file) (f .never) (f .starts)) table))
     framed-accepted = (
       record {
         tabled = record { sized = sized; long = long };

@@ -1,28 +1,33 @@
--- A file that document 01 reads is read with the same answer, and its machine is document 01's: with four entries each check fails where
--- it failed before, and nothing is ruled out.
-use mathlib.Core.Path.{_≡_, refl, sym, ap, subst, _∙_}
-use mathlib.Core.Logic.{⊎-elim}
+-- A file that document 01 reads is read with the same answer if its initial state rests at setting 0: with four entries each check
+-- fails where it failed before, nothing is ruled out, and setting 0 is the only start. With a kind 6 of the text `1` its starts are
+-- document 01's, since that condition holds at every setting.
+use mathlib.Core.Path.{_≡_, refl, sym, ap, subst, fun-ext, _∙_}
+use mathlib.Core.Bool.{Bool}
+use mathlib.Core.Logic.{_↔_, ⊎-elim}
 use mathlib.Core.List.{List}
 use Prim.Native.Nat.{ℕ, suc, _<_}
 use native.Mathlib.Omega.{arith}
 use lib.ListN.{length}
+use lib.Dec.{eqb}
 use Rattle.condition.specs.Condition.{Reads}
 use Rattle.verdict.specs.Checks.{None, Unless, Passed, Judged}
 use Rattle.verdict.specs.declared.Answer.{Answer}
 use Rattle.verdict.proofs.Order.{judged-row, judged-same, unless, judged-passes, judged-unique}
 use Rattle.verdict.proofs.Tests.{decides-or, decides-equal}
 use Rattle.machine.specs.Moves.{Start}
-use Rattle.machine.specs.Runs.{machineOf, bareMachine}
-use Rattle.machine.proofs.Bare.{none-ruled, machine-bare}
-use Rattle.specification.specs.File.{countOf, kinds, WellFormed}
+use Rattle.machine.specs.Runs.{usable, machineOf, bareMachine, startingAt}
+use Rattle.machine.specs.Plans.{SameRuns}
+use Rattle.machine.proofs.Bare.{none-ruled, machine-bare, starts-anywhere}
+use Rattle.specification.specs.File.{countOf, kinds, neverKind, Has, WellFormed}
 use Rattle.specification.specs.Records.{sizesOf, settings, records, Sized}
-use Rattle.specification.specs.Rules.{Unreads, Moves, MayStart}
+use Rattle.specification.specs.Rules.{Unreads, Moves, Never, power-up, MayStart}
 use Rattle.specification.specs.Reading.{fileChecks, ReadHere}
-use Rattle.specification.specs.Before.{FourKinds, FourSized, RecordUnreads, checksBefore}
+use Rattle.specification.specs.Before.{FourKinds, FourSized, RecordUnreads, checksBefore, AnyStart}
 use Rattle.specification.specs.declared.Contents.{Contents}
+use Rattle.specification.specs.declared.records.Sizes.{Sizes}
 use Rattle.specification.proofs.Conditions.{condition-record}
-use Rattle.specification.proofs.Meanings.{never-none}
-use Rattle.specification.proofs.Never.{none-never}
+use Rattle.specification.proofs.Meanings.{never-none, starts-zero, starts-all}
+use Rattle.specification.proofs.Optional.{none-never, zero-allowed, any-allowed}
 
 module _ {file : List ℕ} (four : countOf file ≡ kinds) where
   pub formed : FourKinds file → WellFormed file
@@ -56,14 +61,17 @@ module _ {file : List ℕ} (four : countOf file ≡ kinds) where
   four-sized : Sized file → FourSized file
   four-sized x = record { ranges = x .ranges; states = x .states; texts = x .texts }
 
-  -- 13: no setting is ruled out
-  any-start : (v : ℕ) × Start (Moves file (sizesOf file)) (MayStart file (sizesOf file)) (settings (sizesOf file)) (sizesOf file .initial) v
-      → (v : ℕ) × Start (Moves file (sizesOf file)) (λ u. Unit {0}) (settings (sizesOf file)) (sizesOf file .initial) v
-  any-start (v, x) = (v, record { below = x .below; rests = x .rests; allowed = tt })
+  -- 13: there is no other kind, so setting 0 is the only start and is not ruled out
+  no-other : None (Unless (WellFormed file)) → {kind : ℕ} → kinds < kind → Has file kind → ⊥
+  no-other w l (k, o) = w .nowhere 0 (refl, λ x. omega (arith, four, o .there, o .is, x .entries .always k (omega (arith, four, o .there))))
 
-  start-left : None (Unless (WellFormed file)) → (v : ℕ) × Start (Moves file (sizesOf file)) (λ u. Unit {0}) (settings (sizesOf file)) (sizesOf file .initial) v
+  zero-start : None (Unless (WellFormed file)) → (v : ℕ) × Start (Moves file (sizesOf file)) (MayStart file (sizesOf file)) (settings (sizesOf file)) (sizesOf file .initial) v
+      → (v : ℕ) × Start (Moves file (sizesOf file)) (λ v. v ≡ 0) (settings (sizesOf file)) (sizesOf file .initial) v
+  zero-start w (v, x) = (v, record { below = x .below; rests = x .rests; allowed = zero-allowed (no-other w (omega arith)) (x .allowed .0) })
+
+  start-left : None (Unless (WellFormed file)) → (v : ℕ) × Start (Moves file (sizesOf file)) (λ v. v ≡ 0) (settings (sizesOf file)) (sizesOf file .initial) v
       → (v : ℕ) × Start (Moves file (sizesOf file)) (MayStart file (sizesOf file)) (settings (sizesOf file)) (sizesOf file .initial) v
-  start-left w (v, x) = (v, record { below = x .below; rests = x .rests; allowed = none-never w four })
+  start-left w (v, x) = (v, record { below = x .below; rests = x .rests; allowed = (power-up (no-other w (omega arith)) (x .allowed), none-never (no-other w (omega arith))) })
 
   -- refusal 5, of the records alone
   unreads : (r : ℕ) → RecordUnreads file (sizesOf file) r → Unreads file (sizesOf file) r
@@ -80,19 +88,38 @@ module _ {file : List ℕ} (four : countOf file ≡ kinds) where
       judged-row (unless four-kinds) (unless formed)
       (λ w. judged-row (unless four-sized) (unless sized)
       (λ _. judged-same (judged-same (judged-same (judged-same (judged-row unreads record-unreads
-      (λ _. judged-same (judged-same (judged-same (judged-same (judged-same (judged-same (judged-same (judged-row (unless any-start) (unless (start-left w)) (λ _ u. u))))))))))))))) v
+      (λ _. judged-same (judged-same (judged-same (judged-same (judged-same (judged-same (judged-same (judged-row (unless (zero-start w)) (unless (start-left w)) (λ _ u. u))))))))))))))) v
 
--- A file that document 01 reads is read, and the table jobs are handed document 01's machine. Its table and words are those that
--- `ReadHere` says, in the same words as before.
+-- A file that document 01 reads, and whose initial state rests at setting 0, is read, and the table jobs are handed document 01's
+-- machine with that start alone. Its table and words are those that `ReadHere` says, in the same words as before.
 pub as-before : {file table₀ words₀ table₁ words₁ : List ℕ} {room : ℕ} {a : Answer} {r : Contents}
     → Judged (checksBefore file (length table₀) (length words₀) room) Passed a → a .number ≡ 0 → ReadHere file table₀ words₀ room r table₁ words₁
-    → (r .answer ≡ a) × ((T : List ℕ) → machineOf (r .frame) T ≡ bareMachine (sizesOf file .inputs) (sizesOf file .states) (sizesOf file .initial) T)
+    → (r .answer ≡ a) × ((T : List ℕ) → machineOf (r .frame) T ≡ startingAt (λ v. eqb v 0) (bareMachine (sizesOf file .inputs) (sizesOf file .states) (sizesOf file .initial) T))
 as-before {file} {a = a} {r} v e u =
     ⊎-elim
     (λ four.
     let is : r .answer ≡ a = judged-unique (u .verdict) (judged-before four v) in
     let d : r .answer .number ≡ 0 = ap (λ (b : Answer). b .number) is ∙ e in
     let f = u .done d .frame in
-    (is, λ T. rw (← f .inputs, ← f .states, ← f .initial) (machine-bare (r .frame) T (none-ruled (r .frame) (never-none u d four)))))
+    let w = judged-passes 13 (u .verdict) refl d .0 in (
+      is,
+      λ T. rw (← f .inputs, ← f .states, ← f .initial)
+          (machine-bare (r .frame) T (none-ruled (r .frame) (never-none u d (no-other four w (omega arith))))
+          ∙ ap (λ (s : ℕ → Bool). startingAt s (bareMachine (r .frame .inputs) (r .frame .states) (r .frame .initial) T)) (fun-ext (starts-zero u d (no-other four w (omega arith))))),
+    ))
     (λ (other : countOf file ≡ kinds → ⊥). absurd (judged-passes 13 v refl e .0 .nowhere 0 (refl, λ x. other (x .count))))
     (decides-or (decides-equal (countOf file) kinds))
+
+-- With kind 6 `1` a run may start as document 01 lets it, at any setting that is not ruled out: by the file, and by the runs of the
+-- machine that the table jobs are handed, which without kind 5 are those of document 01's machine.
+pub may-start-anywhere : {file : List ℕ} {z : Sizes} {v : ℕ} → AnyStart file → MayStart file z v ↔ (Never file z v → ⊥)
+may-start-anywhere a = (λ x. x .1, λ n. (any-allowed a, n))
+
+module _ {file table words₀ : List ℕ} {room : ℕ} {r : Contents} {t w : List ℕ} (u : ReadHere file table words₀ room r t w) (e : r .answer .number ≡ 0) (a : AnyStart file) (T : List ℕ) where
+  pub runs-anywhere : SameRuns (machineOf (r .frame) T) (startingAt (usable (r .frame)) (machineOf (r .frame) T))
+  runs-anywhere = starts-anywhere (r .frame) T (starts-all u e a)
+
+  pub runs-bare : (Has file neverKind → ⊥) → SameRuns (machineOf (r .frame) T) (bareMachine (r .frame .inputs) (r .frame .states) (r .frame .initial) T)
+  runs-bare n =
+      let all = none-ruled (r .frame) (never-none u e n) in
+      subst (SameRuns (machineOf (r .frame) T)) (ap (startingAt (usable (r .frame))) (machine-bare (r .frame) T all) ∙ ap (λ (s : ℕ → Bool). startingAt s (bareMachine (r .frame .inputs) (r .frame .states) (r .frame .initial) T)) (fun-ext all)) runs-anywhere

@@ -16,7 +16,7 @@ use Rattle.specification.specs.inner.Filling.{placeOf, filledOf, filling
 use Rattle.specification.specs.Reading.{ReadAs}
 use Rattle.specification.specs.inner.Private.{Laid, CoreAs}
 use Rattle.specification.specs.declared.records.Sizes.{Sizes}
-use Rattle.specification.specs.declared.reading.Core.{Core}
+use Rattle.specification.specs.declared.answers.Core.{Core}
 use Rattle.specification.proofs.Laws.{sum-more}
 
 module _ (file : List ℕ) (z : Sizes) (from text : ℕ) (ef : from ≡ recordAt z (z .states)) (ex : text ≡ textAt file z (z .states)) where

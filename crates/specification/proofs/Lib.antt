@@ -1,6 +1,6 @@
 pub mod Laws
 pub mod Entries
-pub mod Never
+pub mod Optional
 pub mod Conditions
 pub mod Framing
 pub mod Firing

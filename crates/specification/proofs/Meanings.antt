@@ -1,7 +1,8 @@
 -- The table of a file that is read is the meaning of its conditions: at each couple exactly one rule holds, and the byte is its target.
--- A rule holds because checks 8 and 9 passed. The set of its frame is the meaning of kind 5. And its records are its evolutions, so that what is asked of a record is asked of the file.
+-- A rule holds because checks 8 and 9 passed. The sets of its frame are what kinds 5 and 6 say. And its records are its evolutions, so
+-- that what is asked of a record is asked of the file.
 use mathlib.Core.Path.{_≡_, refl, sym, ap, subst, subst₂, _∙_}
-use mathlib.Core.Bool.{Bool}
+use mathlib.Core.Bool.{Bool, true}
 use mathlib.Core.List.{List}
 use mathlib.Core.Logic.{inl, ⊎-elim}
 use Prim.Native.Nat.{ℕ, zero, suc, _+_, _^_, _≤_, _<_}
@@ -11,24 +12,29 @@ use native.Mathlib.Nat.{not-suc-le-zero, le-of-suc-le-suc, eq-or-lt-of-le}
 use lib.ListN.{length, getD, replicate, length-append, List·getD-append}
 use lib.Seq.{getD-at}
 use lib.Arith.{digits-lt}
-use Rattle.verdict.specs.Checks.{None, Unless, Decides}
+use lib.Dec.{eqb}
+use lib.Pow.{pow-pos}
+use borrow.Author.Tests.{ne-eqb}
+use Rattle.verdict.specs.Checks.{Decides}
 use Rattle.verdict.proofs.Order.{judged-passes}
-use Rattle.verdict.proofs.Tests.{decides-map}
+use Rattle.verdict.proofs.Tests.{decides-map, decides-is, decides-equal, decides-unique}
 use Rattle.sets.specs.Sets.{words, member}
 use Rattle.sets.proofs.Arrays.{set-none, set-of-only}
 use Rattle.condition.specs.Condition.{Holds}
 use Rattle.evolutions.specs.Evolutions.{blank, Met}
 use Rattle.evolutions.specs.declared.Evolution.{Evolution}
 use Rattle.machine.specs.Couples.{coupleAt, Couple}
-use Rattle.specification.specs.File.{countOf, bodyOf, kinds, neverKind, WellFormed}
+use Rattle.machine.proofs.Order.{below-or}
+use Rattle.specification.specs.File.{neverKind, startsKind, Has}
 use Rattle.specification.specs.Records.{sizesOf, settings, records, textLength}
-use Rattle.specification.specs.Rules.{textAt, textOf, OneRule}
+use Rattle.specification.specs.Rules.{textAt, textOf, Allowed, power-up, OneRule}
 use Rattle.specification.specs.Evolutions.{evolutionOf, evolutions}
 use Rattle.specification.specs.Reading.{ReadHere, ReadAs}
+use Rattle.specification.specs.Before.{AnyStart}
 use Rattle.specification.specs.declared.Contents.{Contents}
 use Rattle.specification.specs.declared.records.Sizes.{Sizes}
 use Rattle.specification.proofs.Laws.{sum-below, laid}
-use Rattle.specification.proofs.Never.{never-holds, holds-never, none-never}
+use Rattle.specification.proofs.Optional.{none-never, zero-allowed, any-allowed}
 use Rattle.specification.proofs.Once.{no-two-rules}
 use Rattle.specification.proofs.Settling.{same-rule}
 
@@ -46,18 +52,21 @@ module _ {file table words₀ : List ℕ} {room : ℕ} {r : Contents} {t w : Lis
       let m : r .frame .states ≡ sizesOf file .states = u .done e .frame .states in
       subst (λ n. OneRule file (sizesOf file) s v (getD t (coupleAt (2 ^ n) s v) 0)) (sym n) (means s v (subst (λ k. s < k) m h) (subst (λ n. v < 2 ^ n) n k))
 
-  -- the set that is answered: setting v is a member exactly if there is a kind 5 whose condition holds at v, and without it none is
-  formed : None (Unless (WellFormed file))
-  formed = judged-passes 13 (u .verdict) refl e .0
+  -- the sets that are answered: without kind 5 no setting is ruled out, and without kind 6 setting 0 alone is an allowed start
+  pub never-none : (Has file neverKind → ⊥) → r .frame .never ≡ replicate words 0
+  never-none n = set-of-only (u .done e .frame .never) (set-none words (settings (sizesOf file)) (λ v h. none-never n))
 
-  pub never-means : (v : ℕ) → v < 2 ^ r .frame .inputs → Decides ((countOf file ≡ neverKind) × Holds (r .frame .inputs) v (bodyOf file kinds)) (member (r .frame .never) v)
-  never-means v h =
-      let f = u .done e .frame in
-      subst (λ (n : ℕ). Decides ((countOf file ≡ neverKind) × Holds n v (bodyOf file kinds)) (member (r .frame .never) v)) (sym (f .inputs))
-      (decides-map (never-holds formed) (holds-never formed) (f .never .each v (subst (λ (n : ℕ). v < 2 ^ n) (f .inputs) h)))
+  pub starts-zero : (Has file startsKind → ⊥) → (v : ℕ) → member (r .frame .starts) v ≡ eqb v 0
+  starts-zero n v =
+      let s = u .done e .frame .starts in
+      ⊎-elim
+      (λ h. decides-unique (Allowed file (sizesOf file) v) (member (r .frame .starts) v) (eqb v 0) (s .each v h) (decides-map (power-up n) (zero-allowed n) (decides-equal v 0)))
+      (λ h. s .beyond v h ∙ sym (ne-eqb v 0 (λ q. omega (arith, pow-pos (sizesOf file .inputs)))))
+      (below-or v (settings (sizesOf file)))
 
-  pub never-none : countOf file ≡ kinds → r .frame .never ≡ replicate words 0
-  never-none four = set-of-only (u .done e .frame .never) (set-none words (settings (sizesOf file)) (λ v h. none-never formed four))
+  -- with kind 6 `1` every setting is
+  pub starts-all : AnyStart file → (v : ℕ) → v < 2 ^ r .frame .inputs → member (r .frame .starts) v ≡ true
+  starts-all a v h = let f = u .done e .frame in decides-is (f .starts .each v (subst (λ (n : ℕ). v < 2 ^ n) (f .inputs) h)) (any-allowed a)
 
 -- the list of evolutions, by its elements
 module _ (file : List ℕ) (z : Sizes) where

@@ -16,7 +16,7 @@ use Rattle.specification.specs.Reading.{shapeChecks, refusalOf}
 use Rattle.specification.specs.inner.Private.{Laid, soundChecks, SoundAs, OutcomeAs, CoreAs}
 use Rattle.specification.specs.declared.Contents.{Contents}
 use Rattle.specification.specs.declared.records.Sizes.{Sizes}
-use Rattle.specification.specs.declared.reading.Core.{Core}
+use Rattle.specification.specs.declared.answers.Core.{Core}
 use Rattle.specification.proofs.Laws.{laid}
 
 module _ (file table words : List ℕ) (room : ℕ) {s : Answer} (v : Judged (shapeChecks file (length table) (length words) room) Passed s) where

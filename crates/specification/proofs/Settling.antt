@@ -8,16 +8,16 @@ use native.Mathlib.Omega.{arith}
 use lib.ListN.{length, getD}
 use lib.Arith.{digits-lt}
 use lib.Pow.{pow-pos}
-use Rattle.verdict.specs.Checks.{None, Finds, Judged, Passed}
+use Rattle.verdict.specs.Checks.{Decides, None, Finds, Judged, Passed}
 use Rattle.verdict.specs.Buffers.{Filled}
 use Rattle.verdict.specs.declared.Answer.{Answer}
 use Rattle.verdict.specs.declared.Found.{Found}
 use Rattle.verdict.specs.declared.Found.the-variants.{Nothing}
 use Rattle.verdict.proofs.Order.{judged-passes, judged-row}
-use Rattle.verdict.proofs.Tests.{decides-is, decides-not, found-none}
+use Rattle.verdict.proofs.Tests.{decides-is, decides-not, _also_, found-none}
 use Rattle.machine.specs.Couples.{Couple}
 use Rattle.machine.specs.Moves.{tableMoves, Stateless, SameWord, Start}
-use Rattle.machine.specs.Runs.{machineOf, Starts}
+use Rattle.machine.specs.Runs.{startable, machineOf, Starts}
 use Rattle.machine.specs.declared.Frame.{Frame}
 use Rattle.machine.proofs.Order.{below-or, equal-or}
 use Rattle.machine.proofs.Couples.{couple-of, couple-below}
@@ -83,13 +83,16 @@ module _ {file : List ℕ} {z : Sizes} {table : List ℕ} (t : Ruled file z tabl
   pub states-only : (p : ℕ) → p < couples z → getD table p 0 < z .states
   states-only p l = below (t .moves p l .move _ _ (couple-of p (pow-pos (z .inputs)) l))
 
-  -- and so are its starts, with the set of the settings that are never used
+  -- and so are its starts, with the sets of its frame
   module _ {f : Frame} (x : FrameOf file z f) (i : z .initial < z .states) where
-    pub start-there : (v : ℕ) × Start (Moves file z) (MayStart file z) (settings z) (z .initial) v → (v : ℕ) × Starts (machineOf (framed z (f .never)) table) v
-    start-there s = (s .0, start-into into-table (decides-is (decides-not (x .never .each (s .0) (s .1 .below)))) i (s .1))
+    decides-may : (v : ℕ) → v < settings z → Decides (MayStart file z v) (startable f v)
+    decides-may v h = x .starts .each v h also decides-not (x .never .each v h)
 
-    start-back : (v : ℕ) × Starts (machineOf (framed z (f .never)) table) v → (v : ℕ) × Start (Moves file z) (MayStart file z) (settings z) (z .initial) v
-    start-back s = (s .0, start-into table-into (decides-not (x .never .each (s .0) (s .1 .below)) .holds) i (s .1))
+    pub start-there : (v : ℕ) × Start (Moves file z) (MayStart file z) (settings z) (z .initial) v → (v : ℕ) × Starts (machineOf (framed z (f .never) (f .starts)) table) v
+    start-there s = (s .0, start-into into-table (decides-is (decides-may (s .0) (s .1 .below))) i (s .1))
+
+    start-back : (v : ℕ) × Starts (machineOf (framed z (f .never) (f .starts)) table) v → (v : ℕ) × Start (Moves file z) (MayStart file z) (settings z) (z .initial) v
+    start-back s = (s .0, start-into table-into (decides-may (s .0) (s .1 .below) .holds) i (s .1))
 
 -- what the scan leaves where no two rules hold, and the words of the states
 pub record Settled (file : List ℕ) (z : Sizes) (table words : List ℕ) : Type 0 where

@@ -1,14 +1,15 @@
--- Reading a file as document 01 has it, with four kinds: a file that it reads has the same answers where a kind 5 may be there (theorem
--- `as-before`). Assumes nothing: these are definitions.
+-- Reading a file as document 01 has it. A file with its four kinds has the same answers but for setting 0 as the only start (theorem
+-- `as-before`), and one with a kind 6 of the text `1` has its starts (theorem `runs-bare`). Assumes nothing: these are definitions.
 use mathlib.Core.Path.{_≡_}
 use mathlib.Core.List.{List, _∷_, []}
+use Prim.Native.Char.{code}
 use Prim.Native.Nat.{ℕ, _+_, _*_, _≤_, _<_}
 use lib.ListN.{length, take}
 use Rattle.condition.specs.Condition.{Reads}
 use Rattle.verdict.specs.Checks.{Check, check, Unless, Short}
 use Rattle.machine.specs.Moves.{Transient, SameWord, Unreached, Start}
 use Rattle.specification.specs.Limits.{mostBytes}
-use Rattle.specification.specs.File.{mark, countOf, entryAt, kindOf, offsetOf, lengthOf, startOf, kinds, Measured}
+use Rattle.specification.specs.File.{mark, countOf, entryAt, kindOf, offsetOf, lengthOf, startOf, bodyOf, kinds, startsKind, EntryOf, Measured}
 use Rattle.specification.specs.Records.{sumTo, sizesOf, settings, couples, records, textLength, word, Ranges, Beyond, Own, Twice}
 use Rattle.specification.specs.Rules.{textOf, TwoRules, NoRule, Moves}
 use Rattle.specification.specs.declared.records.Sizes.{Sizes}
@@ -35,7 +36,7 @@ pub record RecordUnreads (file : List ℕ) (z : Sizes) (r : ℕ) : Type 0 where
   pub below : r < records z
   pub unread : Reads (z .inputs) (textOf file z r) → ⊥
 
--- the checks of a file, in their order; a run may start wherever the initial state rests
+-- the checks of a file, in their order; a run may start at setting 0
 abbrev pub checksBefore : List ℕ → ℕ → ℕ → ℕ → List Check
 checksBefore file tableRoom wordRoom recordRoom =
     let z = sizesOf file in
@@ -53,5 +54,11 @@ checksBefore file tableRoom wordRoom recordRoom =
     ∷ check 10 (Transient (Moves file z) (z .states) (settings z))
     ∷ check 11 (SameWord (word file z) (z .states))
     ∷ check 12 (Unreached (Moves file z) (z .states) (settings z) (z .initial))
-    ∷ check 13 (Unless ((v : ℕ) × Start (Moves file z) (λ u. Unit {0}) (settings z) (z .initial) v))
+    ∷ check 13 (Unless ((v : ℕ) × Start (Moves file z) (λ v. v ≡ 0) (settings z) (z .initial) v))
     ∷ []
+
+-- every setting is an allowed start: there is a kind 6, and its text is `1`
+pub record AnyStart (file : List ℕ) : Type 0 where
+  pub entry : ℕ
+  pub of : EntryOf file startsKind entry
+  pub text : bodyOf file entry ≡ code "1" ∷ []

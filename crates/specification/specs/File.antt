@@ -44,9 +44,21 @@ bodyOf file k = take (lengthOf file k) (drop (startOf file k) file)
 abbrev pub kinds : ℕ
 kinds = 4
 
--- kind 5, the settings that are never used, may be there, and no other
+-- kind 5, the settings that are never used, and kind 6, the allowed starts, may be there, and no other
 abbrev pub neverKind : ℕ
 neverKind = 5
+
+abbrev pub startsKind : ℕ
+startsKind = 6
+
+-- entry k is of a kind
+pub record EntryOf (file : List ℕ) (kind k : ℕ) : Type 0 where
+  pub there : k < countOf file
+  pub is : kindOf file k ≡ kind
+
+-- the file has a body of a kind
+abbrev pub Has : List ℕ → ℕ → Type 0
+Has file kind = (k : ℕ) × EntryOf file kind k
 
 -- neither too long nor too short; mark and count
 pub record Headed (file : List ℕ) : Type 0 where
@@ -55,11 +67,11 @@ pub record Headed (file : List ℕ) : Type 0 where
   pub count : kinds ≤ countOf file
   pub enough : entryAt (countOf file) ≤ length file
 
--- kinds rising, 1 to 4 among them, none beyond 5; bodies end to end, the last ends with the file
+-- kinds rising, 1 to 4 among them, none beyond 6; bodies end to end, the last ends with the file
 pub record Entries (file : List ℕ) : Type 0 where
   pub always : (k : ℕ) → k < kinds → kindOf file k ≡ k + 1
   pub rising : (k : ℕ) → suc k < countOf file → kindOf file k < kindOf file (suc k)
-  pub known : (k : ℕ) → k < countOf file → kindOf file k ≤ neverKind
+  pub known : (k : ℕ) → k < countOf file → kindOf file k ≤ startsKind
   pub offset : (k : ℕ) → k < countOf file → offsetOf file k ≡ startOf file k
   pub ends : startOf file (countOf file) ≡ length file
 

@@ -26,7 +26,7 @@ shapeChecks file tableRoom wordRoom recordRoom =
     -- file too long or too short, mark, count, kinds, offsets or end wrong; kind 1 not 4 bytes; kind 2 or 3 not a multiple of 3
     check 1 (Unless (WellFormed file))
     -- a size outside its range; initial not below S; kind 2 not 3 × S bytes; over 992 evolutions; condition lengths not summing to kind 4;
-    -- kind 5 over 255 bytes
+    -- kind 5 or 6 over 255 bytes
     ∷ check 2 (Unless (Sized file))
     -- a table, word or record buffer too short, the first short one in that order
     ∷ check 3 (Short (couples z) tableRoom)
@@ -39,7 +39,7 @@ abbrev pub recordChecks : List ℕ → Sizes → List Check
 recordChecks file z =
     -- output bit beyond the outputs; state not below S in a record
     check 4 (Beyond file z)
-    -- condition does not read, that of kind 5 after those of the records
+    -- condition does not read, those of kinds 5 and 6 after those of the records
     ∷ check 5 (Unreads file z)
     -- evolution to its own source
     ∷ check 6 (Own file z)
@@ -79,9 +79,9 @@ pub record CharacterFor (file : List ℕ) (z : Sizes) (a : Answer) (k : ℕ) : T
   pub unread : a .number ≡ 5 → CharacterOf (z .inputs) (conditionOf file z (a .place)) k
   pub other : (a .number ≡ 5 → ⊥) → k ≡ 0
 
--- a refusal: the sizes are all zero, and no setting is ruled out
+-- a refusal: the sizes are all zero, and so are the sets
 abbrev pub refusalOf : Answer → ℕ → Contents
-refusalOf a k = record { answer = a; character = k; outputs = 0; evolutions = 0; frame = record { inputs = 0; states = 0; initial = 0; never = replicate words 0 } }
+refusalOf a k = record { answer = a; character = k; outputs = 0; evolutions = 0; frame = record { inputs = 0; states = 0; initial = 0; never = replicate words 0; starts = replicate words 0 } }
 
 -- success: the sizes of the file, and its frame
 pub record ContentsOf (file : List ℕ) (z : Sizes) (r : Contents) : Type 0 where

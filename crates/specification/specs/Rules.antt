@@ -9,7 +9,7 @@ use Rattle.condition.specs.Condition.{Reads, Holds}
 use Rattle.sets.specs.Sets.{words, SetOf}
 use Rattle.machine.specs.Couples.{Couple}
 use Rattle.machine.specs.declared.Frame.{Frame}
-use Rattle.specification.specs.File.{countOf, kindOf, kinds, neverKind, bodyOf}
+use Rattle.specification.specs.File.{kinds, neverKind, startsKind, bodyOf, EntryOf, Has}
 use Rattle.specification.specs.Records.{sumTo, sizesOf, settings, couples, records, recordAt, source, target, textLength}
 use Rattle.specification.specs.declared.records.Sizes.{Sizes}
 
@@ -86,23 +86,32 @@ pub record TableOf (file table : List ℕ) : Type 0 where
   pub whole : length table ≡ couples (sizesOf file)
   pub each : (p : ℕ) → p < couples (sizesOf file) → MoveAt file (sizesOf file) (settings (sizesOf file)) p (getD table p 0)
 
--- the setting v is never used: there is a kind 5, and its condition holds at v
-pub record Never (file : List ℕ) (z : Sizes) (v : ℕ) : Type 0 where
+-- there is a body of a kind, and its condition holds at v
+pub record HoldsIn (file : List ℕ) (z : Sizes) (kind v : ℕ) : Type 0 where
   pub entry : ℕ
-  pub there : entry < countOf file
-  pub kind : kindOf file entry ≡ neverKind
+  pub of : EntryOf file kind entry
   pub holds : Holds (z .inputs) v (bodyOf file entry)
 
--- a run may start at any other
-abbrev pub MayStart : List ℕ → Sizes → ℕ → Type 0
-MayStart file z v = Never file z v → ⊥
+-- the setting v is never used: kind 5 holds there
+abbrev pub Never : List ℕ → Sizes → ℕ → Type 0
+Never file z v = HoldsIn file z neverKind v
 
--- the frame of a file: its sizes, and the set of the settings that are never used
+-- the setting v is an allowed start: kind 6 holds there, or without kind 6 it is setting 0
+pub data Allowed (file : List ℕ) (z : Sizes) (v : ℕ) : Type 0 where
+  said : HoldsIn file z startsKind v → Allowed file z v
+  power-up : (Has file startsKind → ⊥) → v ≡ 0 → Allowed file z v
+
+-- a run may start at an allowed start that is used
+abbrev pub MayStart : List ℕ → Sizes → ℕ → Type 0
+MayStart file z v = Allowed file z v × (Never file z v → ⊥)
+
+-- the frame of a file: its sizes, the set of the settings that are never used, and that of the allowed starts
 pub record FrameOf (file : List ℕ) (z : Sizes) (f : Frame) : Type 0 where
   pub inputs : f .inputs ≡ z .inputs
   pub states : f .states ≡ z .states
   pub initial : f .initial ≡ z .initial
   pub never : SetOf words (settings z) (Never file z) (f .never)
+  pub starts : SetOf words (settings z) (Allowed file z) (f .starts)
 
 -- exactly one rule of s holds at v, and x is its target
 pub record OneRule (file : List ℕ) (z : Sizes) (s v x : ℕ) : Type 0 where

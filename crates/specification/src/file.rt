@@ -3,17 +3,23 @@ ghost use mathlib.Core.Path.{_≡_};
 ghost use mathlib.Core.List.{List};
 ghost use Prim.Native.Nat.{ℕ, _+_, _*_, _<_, _≤_, _^_};
 ghost use lib.ListN.{length, take};
-ghost use Rattle.verdict.specs.Checks.{Decides};
-ghost use Rattle.specification.specs.File.{twoAt, mark, countOf, entryAt, kindOf, offsetOf, lengthOf, Entries, Headed, Measured};
-ghost use Rattle.specification.specs.inner.Private.{Decoded};
+ghost use Rattle.verdict.specs.Checks.{Decides, Finds};
+ghost use Rattle.specification.specs.File.{twoAt, mark, countOf, entryAt, kindOf, offsetOf, lengthOf, EntryOf, Entries, Headed, Measured};
+ghost use Rattle.specification.specs.inner.Private.{KindFits, Decoded};
 use crate::BYTES;
 use basics::wide;
+use verdict::Found;
 
 // The kinds of bodies that are always there, an entry each.
 pub(crate) const KINDS: usize = 4;
 
+// The kinds of the two bodies that may follow: the settings that are never used, and the allowed starts.
+pub(crate) const NEVER: usize = KINDS + 1;
+
+pub(crate) const STARTS: usize = NEVER + 1;
+
 // The most kinds.
-pub(crate) const MOST_KINDS: usize = KINDS + 1;
+pub(crate) const MOST_KINDS: usize = STARTS;
 
 // The bodies of a file, an entry each: how many there are, where each begins, and how long it is.
 pub(crate) struct Bodies {
@@ -55,7 +61,7 @@ fn number_in(file: &[u8], k: usize, by: usize) -> usize
 }
 
 // Where the body of entry k begins.
-fn offset_of(file: &[u8], k: usize) -> usize
+pub(crate) fn offset_of(file: &[u8], k: usize) -> usize
     requires { ⌜ (k < countOf (now file)) × (entryAt (countOf (now file)) ≤ length (now file)) ⌝ }
     ensures { λ r. ⌜ r ≡ offsetOf (now (file .entry)) k ⌝ }
 {
@@ -63,7 +69,7 @@ fn offset_of(file: &[u8], k: usize) -> usize
 }
 
 // The length of the body of entry k.
-fn length_of(file: &[u8], k: usize) -> usize
+pub(crate) fn length_of(file: &[u8], k: usize) -> usize
     requires { ⌜ (k < countOf (now file)) × (entryAt (countOf (now file)) ≤ length (now file)) ⌝ }
     ensures { λ r. ⌜ (r ≡ lengthOf (now (file .entry)) k) × (r < 2 ^ 16) ⌝ }
 {
@@ -119,19 +125,30 @@ fn headed(file: &[u8]) -> bool
     entry_at(count) <= file.len()
 }
 
-// Whether the entries have rising kinds and bodies end to end, to the end of the file: with no kind beyond the last, entry k has kind
-// k + 1.
+// Whether the kind of entry k is as it should be: 1 to 4 are always there, and those behind them rise to the last.
+fn kind_fits(file: &[u8], k: usize) -> bool
+    requires { ⌜ (k < countOf (now file)) × (entryAt (countOf (now file)) ≤ length (now file)) ⌝ }
+    ensures { λ r. ⌜ Decides (KindFits (now (file .entry)) k) r ⌝ }
+{
+    let kind = kind_of(file, k);
+    if k < KINDS {
+        return kind == k + 1;
+    }
+    if MOST_KINDS < kind {
+        return false;
+    }
+    kind_of(file, k - 1) < kind
+}
+
+// Whether the entries have rising kinds and bodies end to end, to the end of the file.
 fn entries(file: &[u8]) -> bool
     requires { ⌜ Headed (now file) ⌝ }
     ensures { λ r. ⌜ Decides (Entries (now (file .entry))) r ⌝ }
 {
     let count = count_of(file);
-    if MOST_KINDS < count {
-        return false;
-    }
     let mut start = entry_at(count);
     for k in 0..count {
-        if kind_of(file, k) != k + 1 {
+        if !kind_fits(file, k) {
             return false;
         }
         if offset_of(file, k) != start {
@@ -150,6 +167,19 @@ pub(crate) fn formed(file: &[u8]) -> bool
         return false;
     }
     entries(file)
+}
+
+// The entry of a kind, if there is one.
+pub(crate) fn entry_of(file: &[u8], kind: usize) -> Found
+    requires { ⌜ Headed (now file) ⌝ }
+    ensures { λ r. ⌜ Finds (EntryOf (now (file .entry)) kind) r ⌝ }
+{
+    for k in 0..count_of(file) {
+        if kind_of(file, k) == kind {
+            return Found::At(k);
+        }
+    }
+    Found::Nothing
 }
 
 // The bodies, by the entries.

@@ -2,6 +2,7 @@
 ghost use Rattle.specification.specs.Limits.{mostEvolutions};
 ghost use Rattle.specification.specs.Reading.{ReadHere, ReadAs};
 
+mod answers;
 mod file;
 mod frames;
 mod handing;

@@ -10,9 +10,11 @@ ghost use Rattle.specification.specs.Limits.{blankMove, blankWord};
 ghost use Rattle.specification.specs.File.{WellFormed};
 ghost use Rattle.specification.specs.Records.{sizesOf, settings, couples as couplesOf, word as wordOf, Sized};
 ghost use Rattle.specification.specs.Rules.{MoveAt, FrameOf};
-ghost use Rattle.specification.specs.Reading.{shapeChecks, recordChecks, refusalOf};
-ghost use Rattle.specification.specs.inner.Private.{Laid, Placed, filledChecks, soundChecks, SoundAs, OutcomeAs, CoreAs};
-use crate::Contents;
+ghost use Rattle.specification.specs.Reading.{shapeChecks, recordChecks};
+ghost use Rattle.specification.specs.inner.Private.{Laid, Placed, filledChecks, soundChecks, SoundAs, CoreAs};
+use crate::answers::Core;
+use crate::answers::outcome;
+use crate::answers::refusal;
 use crate::file::bodies_of;
 use crate::file::formed;
 use crate::file::measured;
@@ -21,21 +23,17 @@ use crate::records::RecordCheck;
 use crate::records::Sizes;
 use crate::records::couples;
 use crate::records::first_wrong;
-use crate::records::record_at;
 use crate::records::sized;
 use crate::records::sizes_of;
-use crate::records::texts_sum;
 use crate::records::word;
 use crate::rules::BLANK_MOVE;
 use crate::rules::TEXTS;
-use crate::rules::character_of;
 use crate::rules::check_texts;
 use crate::rules::fill_moves;
 use crate::rules::next_rules;
 use crate::rules::starts_of;
 use basics::narrow;
 use machine::Frame;
-use sets::WORDS;
 use tables::check_sound;
 use verdict::Answer;
 use verdict::Found;
@@ -44,16 +42,6 @@ use verdict::check_rooms;
 
 // What the words hold after a refusal.
 const BLANK_WORD: u16 = 65535;
-
-// The answer, and what there is to hand on: so many evolutions, whose records begin at `from` and whose texts begin at `text`, or as
-// many zero records where the file is not good.
-pub(crate) struct Core {
-    pub contents: Contents,
-    pub from: usize,
-    pub text: usize,
-    pub count: usize,
-    pub good: bool,
-}
 
 // The answer of refusals 1, 2 and 3, and the sizes of a file that passes 1 and 2.
 struct Shape {
@@ -222,55 +210,6 @@ fn read_sound(file: &[u8], z: Sizes, frame: Frame, table: &mut [u8], words: &mut
         blank_words(words, z.states);
     }
     a
-}
-
-fn refusal(a: Answer, character: usize) -> Contents
-    ensures { λ r. ⌜ r ≡ refusalOf a character ⌝ }
-{
-    Contents {
-        answer: a,
-        character: character,
-        outputs: 0,
-        evolutions: 0,
-        frame: Frame {
-            inputs: 0,
-            states: 0,
-            initial: 0,
-            never: [0; WORDS],
-        },
-    }
-}
-
-// What is answered and handed on of a file that passes 1 to 3: its sizes, its frame and its evolutions where it is sound.
-fn outcome(file: &[u8], z: Sizes, frame: Frame, a: Answer) -> Core
-    requires { ⌜ Laid (now file) z × FrameOf (now file) z frame × Judged (soundChecks (now file) z) Passed a ⌝ }
-    ensures { λ r. ⌜ OutcomeAs (now (file .entry)) z a r ⌝ }
-{
-    let from = record_at(z, z.states);
-    let text = record_at(z, z.states + z.evolutions) + texts_sum(file, z, z.states);
-    if a.number != 0 {
-        return Core {
-            contents: refusal(a, character_of(file, z, a)),
-            from: from,
-            text: text,
-            count: z.evolutions,
-            good: false,
-        };
-    }
-    let contents = Contents {
-        answer: a,
-        character: 0,
-        outputs: z.outputs,
-        evolutions: z.evolutions,
-        frame: frame,
-    };
-    Core {
-        contents: contents,
-        from: from,
-        text: text,
-        count: z.evolutions,
-        good: true,
-    }
 }
 
 // Reads a file at room for so many records: its table of moves and its words, or the first check that fails, at its smallest place.

@@ -12,6 +12,9 @@ ghost use Rattle.specification.specs.Rules.{textOf, conditions, conditio
 ghost use Rattle.specification.specs.Reading.{CharacterFor};
 ghost use Rattle.specification.specs.inner.Private.{Laid, Placed, Follows, Linked, Noted, soundChecks};
 use crate::EVOLUTIONS;
+use crate::file::KINDS;
+use crate::file::length_of;
+use crate::file::offset_of;
 use crate::records::Sizes;
 use crate::records::record_at;
 use crate::records::source;
@@ -23,13 +26,13 @@ use machine::STATES;
 use verdict::Answer;
 use verdict::Found;
 
-// The most places of texts: where the text of each record begins, that of kind 5, and where it ends.
-pub(crate) const TEXTS: usize = STATES + EVOLUTIONS + 2;
+// The most places of texts: where that of each record begins, and where the last one ends.
+pub(crate) const TEXTS: usize = STATES + EVOLUTIONS + 1;
 
 // What a table holds where there is no move.
 pub(crate) const BLANK_MOVE: u8 = 255;
 
-// Where the text of each condition begins, and where the last one ends.
+// Where the text of each record begins, and where the last one ends.
 pub(crate) fn starts_of(file: &[u8], z: Sizes) -> [usize; TEXTS]
     requires { ⌜ Laid (now file) z ⌝ }
     ensures { λ t. ⌜ Placed (now (file .entry)) z t ⌝ }
@@ -42,16 +45,21 @@ pub(crate) fn starts_of(file: &[u8], z: Sizes) -> [usize; TEXTS]
         at = at + text_length(file, z, r);
     }
     starts[count] = at;
-    starts[count + 1] = file.len();
     starts
 }
 
-// What condition r says at the setting v.
-fn says(file: &[u8], z: Sizes, starts: &[usize; TEXTS], r: usize, v: usize) -> Meaning
+// What condition r says at setting 0: that of a record, or a body beyond kind 4.
+fn says(file: &[u8], z: Sizes, starts: &[usize; TEXTS], r: usize) -> Meaning
     requires { ⌜ Placed (now file) z (now starts) × (r < conditions z) ⌝ }
-    ensures { λ m. ⌜ Says (z .inputs) v (conditionOf (now (file .entry)) z r) m ⌝ }
+    ensures { λ m. ⌜ Says (z .inputs) 0 (conditionOf (now (file .entry)) z r) m ⌝ }
 {
-    condition::read(&file[starts[r]..starts[r + 1]], z.inputs, v)
+    let count = z.states + z.evolutions;
+    if r < count {
+        return condition::read(&file[starts[r]..starts[r + 1]], z.inputs, 0);
+    }
+    let k = KINDS + (r - count);
+    let at = offset_of(file, k);
+    condition::read(&file[at..at + length_of(file, k)], z.inputs, 0)
 }
 
 // Refusal 5.
@@ -61,7 +69,7 @@ pub(crate) fn check_texts(file: &[u8], z: Sizes, starts: &[usize; TEXTS]) -> Ans
 {
     let count = z.states + z.evolutions + z.more;
     for r in 0..count {
-        let Meaning::Is(_) = says(file, z, starts, r, 0) else {
+        let Meaning::Is(_) = says(file, z, starts, r) else {
             return Answer {
                 number: 5,
                 place: r,
@@ -83,7 +91,7 @@ pub(crate) fn character_of(file: &[u8], z: Sizes, a: Answer) -> usize
         return 0;
     }
     let starts = starts_of(file, z);
-    match says(file, z, &starts, a.place, 0) {
+    match says(file, z, &starts, a.place) {
         Meaning::Is(_) => 0,
         Meaning::Unread(character) => character,
     }
@@ -94,10 +102,7 @@ fn rule_holds(file: &[u8], z: Sizes, starts: &[usize; TEXTS], r: usize, v: usize
     requires { ⌜ Placed (now file) z (now starts) × (r < records z) ⌝ }
     ensures { λ b. ⌜ Decides (Holds (z .inputs) v (textOf (now (file .entry)) z r)) b ⌝ }
 {
-    let Meaning::Is(b) = says(file, z, starts, r, v) else {
-        return false;
-    };
-    b
+    condition::holds(&file[starts[r]..starts[r + 1]], z.inputs, v)
 }
 
 // The state that record r is a rule of.

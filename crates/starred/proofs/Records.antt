@@ -10,7 +10,7 @@ use lib.Dec.{eqb, leb, ltb}
 use Rattle.verdict.specs.Checks.{Decides, None}
 use Rattle.machine.specs.Limits.{mostInputs, mostStates}
 use Rattle.machine.specs.Moves.{SameWord}
-use Rattle.verdict.proofs.Tests.{it-fails, decides-map, decides-leb, decides-equal, decides-below, decides-not, decides-either}
+use Rattle.verdict.proofs.Tests.{it-fails, decides-map, decides-leb, decides-equal, decides-below, decides-not, decides-either, _also_}
 use Rattle.machine.proofs.Tests.{every, decides-every}
 use Rattle.specification.specs.Limits.{mostOutputs, mostEvolutions, mostBytes}
 use Rattle.specification.specs.File.{mark, countOf, entryAt, kinds, kindOf, offsetOf, lengthOf, startOf}
@@ -20,12 +20,6 @@ use Rattle.specification.specs.Records.Beyond.{output-beyond, source-beyond, ta
 
 decides-most : (c d : ℕ) → Decides (c ≤ d) (leb c d)
 decides-most c d = decides-leb c d (λ h. h) (λ h. h)
-
--- two tests, one also with the other
-infixl 35 _also_
-_also_ : {a b : Bool} {P Q : Type 0} → Decides P a → Decides Q b → Decides (P × Q) (a && b)
-_also_ {a = true} d f = decides-map (λ q. (d .holds refl, q)) (λ x. x .1) f
-_also_ {a = false} d f = it-fails (λ x. d .fails refl (x .0))
 
 module _ (file : List ℕ) where
   -- refusal 1, but for the mark

@@ -13,7 +13,7 @@ use basics::wide;
 use machine::Frame;
 use machine::settings;
 use machine::sized;
-use machine::usable;
+use machine::startable;
 use verdict::Answer;
 use verdict::Found;
 
@@ -126,7 +126,7 @@ pub fn is_start(frame: Frame, table: &[u8], setting: usize) -> bool
     if wide(table[(initial << frame.inputs) + setting]) != initial {
         return false;
     }
-    usable(frame, setting)
+    startable(frame, setting)
 }
 
 // Whether a table has a start, refusals 2 and 3 passed: otherwise refusal 13.

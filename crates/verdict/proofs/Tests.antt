@@ -1,7 +1,7 @@
 -- What tests and searches tell: a test decides a fact, a search that has seen nothing below i goes on, finds at i or ends, and each
 -- has one answer.
 use mathlib.Core.Path.{_≡_, refl, sym, ap, subst, _∙_}
-use mathlib.Core.Bool.{Bool, true, false, not, cond}
+use mathlib.Core.Bool.{Bool, true, false, not, _&&_, cond}
 use mathlib.Core.Logic.{_⊎_, ⊎-elim, inl, inr}
 use Prim.Native.Nat.{ℕ, _+_, _≤_, _<_}
 use native.Mathlib.Omega.{arith}
@@ -50,6 +50,12 @@ decides-not {b = false} d = it-holds (d .fails refl)
 pub decides-both : {P Q : Type 0} {a b : Bool} → Decides P a → Decides Q b → Decides (P × Q) (cond a b false)
 decides-both {a = true} d f = decides-map (λ q. (d .holds refl, q)) (λ x. x .1) f
 decides-both {a = false} d f = it-fails (λ x. d .fails refl (x .0))
+
+-- the same, as one test also with the other
+infixl 35 _also_
+pub _also_ : {a b : Bool} {P Q : Type 0} → Decides P a → Decides Q b → Decides (P × Q) (a && b)
+_also_ {a = true} d f = decides-map (λ q. (d .holds refl, q)) (λ x. x .1) f
+_also_ {a = false} d f = it-fails (λ x. d .fails refl (x .0))
 
 pub decides-either : {P Q : Type 0} {a b : Bool} → Decides P a → Decides Q b → Decides (P ⊎ Q) (cond a true b)
 decides-either {a = true} d f = it-holds (inl (d .holds refl))

@@ -3,7 +3,7 @@ use Rattle.walks.proofs.Walking.{_≡_, refl, ap, subst, ℕ, _<_, _^_, [], _�
 use denote.Struct.Laws as LL
 use Rattle.evolutions.specs.declared.Evolution.{Evolution}
 use Rattle.specification.specs.declared.Contents.{Contents}
-use Rattle.specification.specs.declared.reading.Core.{Core}
+use Rattle.specification.specs.declared.answers.Core.{Core}
 use Rattle.specification.specs.inner.Filling.{filling}
 use Rattle.specification.specs.inner.Private.{CoreAs}
 use Rattle.specification.specs.Reading.{ReadAs}
@@ -12,8 +12,8 @@ use Rattle.evolutions.proofs.Rows.{R}
 use Rattle.walks.proofs.Finish.{finish}
 use Rattle.specification.proofs.Contents as An
 use Rattle.specification.proofs.Contents.Laws as An′
-use Rattle.specification.proofs.reading.Core as P
-use Rattle.specification.proofs.reading.Core.Laws as P′
+use Rattle.specification.proofs.answers.Core as P
+use Rattle.specification.proofs.answers.Core.Laws as P′
 use Rattle.specification.proofs.reading.read_core as core
 use Rattle.specification.proofs.reading.read_core.Symbol as core-def
 use Rattle.specification.proofs.reading.read_core.Symbol.{name as #core}

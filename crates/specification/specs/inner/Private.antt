@@ -7,24 +7,31 @@ use lib.ListN.{length, getD}
 use Rattle.verdict.specs.Checks.{Check, check, Judged, Passed}
 use Rattle.verdict.specs.Buffers.{Left}
 use Rattle.verdict.specs.declared.Answer.{Answer}
+use Rattle.sets.specs.Sets.{words, SetOf}
 use Rattle.machine.specs.Couples.{Couple}
 use Rattle.machine.specs.Moves.{tableMoves, Stateless, Transient}
 use Rattle.machine.specs.Runs.{Machine, size}
 use Rattle.tables.specs.Tables.{stateChecks}
 use Rattle.specification.specs.Limits.{mostBytes, blankMove, blankWord}
-use Rattle.specification.specs.File.{countOf, lengthOf, startOf, kinds, neverKind, WellFormed}
+use Rattle.specification.specs.File.{countOf, kindOf, lengthOf, startOf, kinds, startsKind, Has, WellFormed}
 use Rattle.specification.specs.Records.{word, settings, couples, records, recordAt, sizesOf, Ranges, Beyond, Own, Twice}
-use Rattle.specification.specs.Rules.{textAt, ruleOf, Fires, MoveAt}
+use Rattle.specification.specs.Rules.{textAt, ruleOf, Fires, MoveAt, HoldsIn}
 use Rattle.specification.specs.Reading.{recordChecks, ruleChecks, moveChecks, CharacterFor, refusalOf, ContentsOf, ReadHere}
 use Rattle.specification.specs.declared.file.Bodies.{Bodies}
 use Rattle.specification.specs.declared.records.Sizes.{Sizes}
 use Rattle.specification.specs.declared.records.RecordCheck.{RecordCheck}
 use Rattle.specification.specs.declared.records.RecordCheck as RecordCheck
-use Rattle.specification.specs.declared.reading.Core.{Core}
+use Rattle.specification.specs.declared.answers.Core.{Core}
 
--- so many entries at most: their kinds rise from 1 to 5
+-- so many entries at most: their kinds rise from 1 to 6
 abbrev pub mostKinds : ℕ
-mostKinds = neverKind
+mostKinds = startsKind
+
+-- the kind of entry k is as it should be, by itself and the one before
+pub record KindFits (file : List ℕ) (k : ℕ) : Type 0 where
+  pub always : k < kinds → kindOf file k ≡ k + 1
+  pub rising : kinds ≤ k → kindOf file (k - 1) < kindOf file k
+  pub known : kindOf file k ≤ startsKind
 
 -- the bodies as they are decoded: how many entries there are, where the body of each begins, and how long it is
 pub record Decoded (file : List ℕ) (b : Bodies) : Type 0 where
@@ -38,7 +45,7 @@ Wrong file z RecordCheck.the-variants.Beyond r = Beyond file z r
 Wrong file z RecordCheck.the-variants.Own r = Own file z r
 Wrong file z RecordCheck.the-variants.Twice r = Twice file z r
 
--- what a file that passes 1 and 2 has: a body beyond kind 4 stands where the texts end
+-- what a file that passes 1 and 2 has: the bodies beyond kind 4 begin where the texts end
 pub record Laid (file : List ℕ) (z : Sizes) : Type 0 where
   pub formed : WellFormed file
   pub ranges : Ranges z
@@ -51,7 +58,11 @@ pub record Laid (file : List ℕ) (z : Sizes) : Type 0 where
 pub record Placed (file : List ℕ) (z : Sizes) (starts : List ℕ) : Type 0 where
   pub laid : Laid file z
   pub at : (r : ℕ) → r ≤ records z → getD starts r 0 ≡ textAt file z r
-  pub end : getD starts (records z + 1) 0 ≡ length file
+
+-- the set by the body of a kind: the settings at which it holds, or another set where there is no such body
+pub data SetIn (file : List ℕ) (z : Sizes) (kind : ℕ) (otherwise set : List ℕ) : Type 0 where
+  there : Has file kind → SetOf words (settings z) (HoldsIn file z kind) set → SetIn file z kind otherwise set
+  without : (Has file kind → ⊥) → set ≡ otherwise → SetIn file z kind otherwise set
 
 -- n is the next rule, after record r, of the state that r is a rule of; the number of records where there is none
 pub record Follows (file : List ℕ) (z : Sizes) (r n : ℕ) : Type 0 where

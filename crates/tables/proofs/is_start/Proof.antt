@@ -40,8 +40,8 @@ returns-4 c =
     let k = rw (settings-are (t .sized) (c .before .before .before .before .before .before .settings .ensures .0 .0)) at (c .before .before .before .before .before .if2 .left) in
     let e = c .before .before .wide .ensures .0 ∙ couple-move t (t .sized .begins) k in
     record {
-      holds = λ u. (t, record { below = k; rests = sym e ∙ c .before .if3 .left; allowed = sym (c .usable .ensures) ∙ u });
-      fails = λ u x. false≢true (sym u ∙ c .usable .ensures ∙ x .1 .allowed);
+      holds = λ u. (t, record { below = k; rests = sym e ∙ c .before .if3 .left; allowed = sym (c .startable .ensures) ∙ u });
+      fails = λ u x. false≢true (sym u ∙ c .startable .ensures ∙ x .1 .allowed);
     }
 
 pub is-start-spec : {M : Type 1} → statement M

@@ -50,7 +50,4 @@ starts-of-spec =
     loop-again
     (λ c. search needs)
     (λ c. search needs)
-    (λ c. search needs)
-    (λ c. search needs)
-    (λ c. search needs)
     returns)

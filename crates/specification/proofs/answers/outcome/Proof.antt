@@ -5,8 +5,8 @@ use mathlib.Core.Path.{refl, sym, ap, _∙_}
 use Rattle.specification.specs.Records.{records, textLength}
 use Rattle.specification.specs.Reading.{refusalOf}
 use Rattle.specification.proofs.Laws.{sum-le}
-use Rattle.specification.proofs.reading.outcome.Statement.{statement}
-use Rattle.specification.proofs.reading.outcome.Tie as tie
+use Rattle.specification.proofs.answers.outcome.Statement.{statement}
+use Rattle.specification.proofs.answers.outcome.Tie as tie
 
 add-text : tie.Need-add-text
 add-text c = omega (arith, sum-le (textLength (c .before .before .before .before .before .args .file .now) (c .before .before .before .before .before .args .z)) (c .before .before .before .before .before .args .z .states) (records (c .before .before .before .before .before .args .z)) (omega arith))
