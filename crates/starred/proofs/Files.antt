@@ -1,24 +1,28 @@
--- The lamp, the lamp with `1` as the rest of state 0, and the gate: the trees of their texts, the rule of each couple, and so the verdict
--- of reading them.
-use mathlib.Core.Path.{_≡_, refl}
+-- The lamp, the lamp with `1` as the rest of state 0, and the gate with and without kind 6: the trees of their texts, the rule of each
+-- couple, and so the verdict of reading them, and their frames.
+use mathlib.Core.Path.{_≡_, refl, subst}
 use mathlib.Core.Bool.{true}
 use mathlib.Core.List.{List, [], _∷_}
-use Prim.Native.Nat.{ℕ, zero, suc, _<_}
+use Prim.Native.Nat.{ℕ, zero, suc, _-_, _^_, _<_}
 use native.Mathlib.Omega.{arith}
-use lib.Dec.{lit<}
+use lib.Dec.{eqb, lit<, lit≤}
 use Rattle.verdict.proofs.Order.{halt}
+use Rattle.verdict.proofs.Tests.{it-holds, decides-map, decides-equal}
 use Rattle.condition.specs.Grammar.{condition, Tree, one, more, bang, paren, on, input, text, opened, holds}
 use Rattle.machine.specs.Moves.{Reached, start, step, tableMoves}
 use Rattle.machine.proofs.Tests.{every}
-use Rattle.specification.specs.File.{startOf}
-use Rattle.specification.specs.Records.{sumTo}
-use Rattle.specification.specs.Rules.{ruleOf, leadsTo, TableOf}
-use Rattle.starred.specs.Files.{lampWith, lampFile, twoRulesFile, gateFile}
-use Rattle.starred.specs.Rows.{lampTable, gateTable, Answered}
+use Rattle.specification.specs.File.{startOf, neverKind, startsKind}
+use Rattle.specification.specs.Records.{sumTo, sizesOf}
+use Rattle.specification.specs.Rules.{conditionOf, ruleOf, leadsTo, TableOf, power-up, FrameOf}
+use Rattle.specification.specs.Before.{AnyStart}
+use Rattle.specification.proofs.Optional.{none-never, zero-allowed, any-allowed}
+use Rattle.starred.specs.Files.{lampWith, lampFile, twoRulesFile, gateFile, closedGateFile}
+use Rattle.starred.specs.Rows.{lampTable, gateTable, lampFrame, gateFrame, Answered}
 use Rattle.starred.proofs.Machines.{lamp-sound, gate-sound}
-use Rattle.starred.proofs.Records.{none-same}
+use Rattle.starred.proofs.Records.{none-of, none-same}
 use Rattle.starred.proofs.Rules.{spelling, fires, none-two, Ruled, ruled}
-use Rattle.starred.proofs.Reading.{Shaped, shape, shaped, unruled, succeeds}
+use Rattle.starred.proofs.Reading.{Shaped, shape, shaped, succeeds, no-start}
+use Rattle.starred.proofs.Frames.{framed}
 
 -- `a` and `!a`
 lit : Tree condition
@@ -32,7 +36,7 @@ abbrev lamp-trees : List (Tree condition)
 lamp-trees = unlit ∷ lit ∷ lit ∷ unlit ∷ []
 
 lamp-spelt : spelling lampFile lamp-trees ≡ true
-unfolding spelling lampWith startOf sumTo lit unlit text opened every
+unfolding spelling conditionOf lampWith startOf sumTo lit unlit text opened every
 lamp-spelt = refl
 
 lamp-shaped : Shaped lampFile
@@ -52,18 +56,24 @@ lamp-reached (suc (suc s)) h = absurd (omega arith)
 
 pub lamp-read : Answered lampFile 0 0
 unfolding lampWith lampTable startOf every
-lamp-read = succeeds lamp-shaped lamp-sound lamp-ruled (none-same lampFile refl) lamp-reached 0 (record { below = lit< tt; rests = refl; allowed = unruled lamp-shaped 0 })
+lamp-read = succeeds lamp-shaped _ lamp-sound lamp-ruled (none-same lampFile refl) lamp-reached 0
+    (record { below = lit< tt; rests = refl; allowed = (power-up (none-of lampFile startsKind refl) refl, none-never (none-of lampFile neverKind refl)) })
 
 pub lamp-table : TableOf lampFile lampTable
 unfolding lampWith lampTable startOf
 lamp-table = record { whole = refl; each = lamp-ruled .moves }
+
+pub lamp-frame : FrameOf lampFile (sizesOf lampFile) lampFrame
+unfolding lampWith startOf every
+lamp-frame = framed lampFile (lit≤ tt) (none-of lampFile neverKind refl) 1 (lit< tt) (λ v. eqb v 0)
+    (λ v. decides-map (power-up (none-of lampFile startsKind refl)) (zero-allowed (none-of lampFile startsKind refl)) (decides-equal v 0)) refl
 
 -- the lamp with `1` as the rest of state 0
 abbrev two-trees : List (Tree condition)
 two-trees = one (one on) ∷ lit ∷ lit ∷ unlit ∷ []
 
 two-spelt : spelling twoRulesFile two-trees ≡ true
-unfolding spelling lampWith startOf sumTo lit unlit text opened every
+unfolding spelling conditionOf lampWith startOf sumTo lit unlit text opened every
 two-spelt = refl
 
 two-shaped : Shaped twoRulesFile
@@ -110,10 +120,10 @@ from-2-to-1 : Tree condition
 from-2-to-1 = one (more (bang (input 3)) (more (input 2) (more (bang (input 1)) (one (bang (input 0))))))
 
 abbrev gate-trees : List (Tree condition)
-gate-trees = to-0 ∷ to-1 ∷ from-2-to-2 ∷ to-1 ∷ to-2 ∷ to-0 ∷ to-2 ∷ from-2-to-0 ∷ from-2-to-1 ∷ []
+gate-trees = to-0 ∷ to-1 ∷ from-2-to-2 ∷ to-1 ∷ to-2 ∷ to-0 ∷ to-2 ∷ from-2-to-0 ∷ from-2-to-1 ∷ one (one on) ∷ []
 
 gate-spelt : spelling gateFile gate-trees ≡ true
-unfolding spelling gateFile startOf sumTo to-0 to-1 to-2 from-2-to-2 from-2-to-0 from-2-to-1 text opened every
+unfolding spelling conditionOf gateFile startOf sumTo to-0 to-1 to-2 from-2-to-2 from-2-to-0 from-2-to-1 text opened every
 gate-spelt = refl
 
 gate-shaped : Shaped gateFile
@@ -138,10 +148,38 @@ gate-reached (suc zero) h = step 0 start (lit< tt) refl
 gate-reached (suc (suc zero)) h = step 1 start (lit< tt) refl
 gate-reached (suc (suc (suc s))) h = absurd (omega arith)
 
+-- the kind 6 `1`
+gate-any : AnyStart gateFile
+unfolding gateFile startOf
+gate-any = record { entry = 4; of = record { there = lit< tt; is = refl }; text = refl }
+
 pub gate-read : Answered gateFile 0 0
 unfolding gateFile gateTable startOf every
-gate-read = succeeds gate-shaped gate-sound gate-ruled (none-same gateFile refl) gate-reached 5 (record { below = lit< tt; rests = refl; allowed = unruled gate-shaped 5 })
+gate-read = succeeds gate-shaped _ gate-sound gate-ruled (none-same gateFile refl) gate-reached 5
+    (record { below = lit< tt; rests = refl; allowed = (any-allowed gate-any, none-never (none-of gateFile neverKind refl)) })
 
 pub gate-moves : TableOf gateFile gateTable
 unfolding gateFile gateTable startOf
 gate-moves = record { whole = refl; each = gate-ruled .moves }
+
+pub gate-frame : FrameOf gateFile (sizesOf gateFile) gateFrame
+unfolding gateFile startOf every
+gate-frame = framed gateFile (lit≤ tt) (none-of gateFile neverKind refl) (2 ^ 16 - 1) (lit< tt) (λ v. true) (λ v. it-holds (any-allowed gate-any)) refl
+
+-- the gate without kind 6: setting 0 is the only start, and state 0 does not rest there
+closed-spelt : spelling closedGateFile gate-trees ≡ true
+unfolding spelling conditionOf closedGateFile startOf sumTo to-0 to-1 to-2 from-2-to-2 from-2-to-0 from-2-to-1 text opened every
+closed-spelt = refl
+
+closed-shaped : Shaped closedGateFile
+unfolding closedGateFile startOf sumTo every
+closed-shaped = shape closedGateFile gate-trees closed-spelt refl refl refl refl
+
+closed-ruled : Ruled closedGateFile gateTable
+unfolding closedGateFile gateTable startOf to-0 to-1 to-2 from-2-to-2 from-2-to-0 from-2-to-1 holds ruleOf leadsTo every
+closed-ruled = ruled closedGateFile gate-trees closed-spelt gate-rules gateTable refl refl refl (gate-sound .closed)
+
+pub closed-refused : Answered closedGateFile 13 0
+unfolding closedGateFile gateTable startOf every
+closed-refused = no-start closed-shaped _ gate-sound closed-ruled (none-same closedGateFile refl) gate-reached
+    (λ v s. let e = zero-allowed (none-of closedGateFile startsKind refl) (s .allowed .0) in omega (arith, subst (λ (v : ℕ). tableMoves gateTable 16 0 v 0) e (s .rests)))

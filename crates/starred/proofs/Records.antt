@@ -1,9 +1,9 @@
 -- The checks of a file's contents and records by computation: a test at each entry, record or pair of records tells that none is wrong.
 use mathlib.Core.Path.{_≡_, refl}
-use mathlib.Core.Logic.{_⊎_, inl, inr}
+use mathlib.Core.Logic.{_⊎_, inl, inr, ⊎-elim}
 use mathlib.Core.List.{List}
 use mathlib.Core.Bool.{Bool, true, false, not, _&&_, cond}
-use Prim.Native.Nat.{ℕ, _+_, _*_, _%_, _^_, _≤_, _<_}
+use Prim.Native.Nat.{ℕ, suc, _+_, _*_, _-_, _%_, _^_, _≤_, _<_}
 use native.Mathlib.Omega.{arith}
 use lib.ListN.{length, take}
 use lib.Dec.{eqb, leb, ltb}
@@ -12,10 +12,9 @@ use Rattle.machine.specs.Limits.{mostInputs, mostStates}
 use Rattle.machine.specs.Moves.{SameWord}
 use Rattle.verdict.proofs.Tests.{it-fails, decides-map, decides-leb, decides-equal, decides-below, decides-not, decides-either, _also_}
 use Rattle.machine.proofs.Tests.{every, decides-every}
-use Rattle.specification.specs.Limits.{mostOutputs, mostEvolutions, mostBytes}
-use Rattle.specification.specs.File.{mark, countOf, entryAt, kinds, kindOf, offsetOf, lengthOf, startOf}
-use Rattle.specification.specs.Before.{FourKinds, FourSized}
-use Rattle.specification.specs.Records.{sumTo, sizesOf, records, word, source, target, textLength, Evolves, Beyond, Own, Twice}
+use Rattle.specification.specs.Limits.{mostOutputs, mostEvolutions, mostBytes, mostText}
+use Rattle.specification.specs.File.{mark, countOf, entryAt, kinds, startsKind, kindOf, offsetOf, lengthOf, startOf, Has, WellFormed}
+use Rattle.specification.specs.Records.{sumTo, sizesOf, records, word, source, target, textLength, Sized, Evolves, Beyond, Own, Twice}
 use Rattle.specification.specs.Records.Beyond.{output-beyond, source-beyond, target-beyond}
 
 decides-most : (c d : ℕ) → Decides (c ≤ d) (leb c d)
@@ -26,29 +25,36 @@ module _ (file : List ℕ) where
   abbrev pub formed : Bool
   formed =
       leb (length file) mostBytes
-      && leb (entryAt kinds) (length file)
-      && eqb (countOf file) kinds
-      && every kinds (λ k. eqb (kindOf file k) (k + 1) && eqb (offsetOf file k) (startOf file k))
-      && eqb (startOf file kinds) (length file)
+      && leb kinds (countOf file)
+      && leb (entryAt (countOf file)) (length file)
+      && every kinds (λ k. eqb (kindOf file k) (k + 1))
+      && every (countOf file - 1) (λ k. ltb (kindOf file k) (kindOf file (suc k)))
+      && every (countOf file) (λ k. leb (kindOf file k) startsKind && eqb (offsetOf file k) (startOf file k))
+      && eqb (startOf file (countOf file)) (length file)
       && eqb (lengthOf file 0) 4
       && eqb (lengthOf file 1 % 3) 0
       && eqb (lengthOf file 2 % 3) 0
 
-  pub four-kinds : take 4 file ≡ mark → formed ≡ true → FourKinds file
-  four-kinds marked e =
-      let x = (decides-most _ _ also decides-most _ _ also decides-equal _ _
-      also decides-every kinds _ (λ k. (kindOf file k ≡ k + 1) × (offsetOf file k ≡ startOf file k)) (λ k. decides-equal _ _ also decides-equal _ _) also decides-equal _ _
-      also decides-equal _ _ also decides-equal _ _ also decides-equal _ _) .holds e in
+  pub well-formed : take 4 file ≡ mark → formed ≡ true → WellFormed file
+  well-formed marked e =
+      let x = (decides-most _ _ also decides-most _ _ also decides-most _ _
+      also decides-every kinds _ (λ k. kindOf file k ≡ k + 1) (λ k. decides-equal _ _)
+      also decides-every (countOf file - 1) _ (λ k. kindOf file k < kindOf file (suc k)) (λ k. decides-below _ _)
+      also decides-every (countOf file) _ (λ k. (kindOf file k ≤ startsKind) × (offsetOf file k ≡ startOf file k)) (λ k. decides-most _ _ also decides-equal _ _)
+      also decides-equal _ _ also decides-equal _ _ also decides-equal _ _ also decides-equal _ _) .holds e in
+      let y = x .0 .0 .0 .0 in
       record {
-        few = x .0 .0 .0 .0 .0 .0 .0;
-        enough = x .0 .0 .0 .0 .0 .0 .1;
-        marked = marked;
-        count = x .0 .0 .0 .0 .0 .1;
-        kind = λ k h. x .0 .0 .0 .0 .1 k h .0;
-        offset = λ k h. x .0 .0 .0 .0 .1 k h .1;
-        ends = x .0 .0 .0 .1;
+        headed = record { few = y .0 .0 .0 .0 .0; marked = marked; count = y .0 .0 .0 .0 .1; enough = y .0 .0 .0 .1 };
+        entries = record { always = y .0 .0 .1; rising = λ k h. y .0 .1 k (omega arith); known = λ k h. y .1 k h .0; offset = λ k h. y .1 k h .1; ends = x .0 .0 .0 .1 };
         measured = record { sizes = x .0 .0 .1; states = x .0 .1; evolutions = x .1 };
       }
+
+  -- the file has no body of a kind
+  abbrev pub lacks : ℕ → Bool
+  lacks kind = every (countOf file) (λ k. not (eqb (kindOf file k) kind))
+
+  pub none-of : (kind : ℕ) → lacks kind ≡ true → Has file kind → ⊥
+  none-of kind e (k, o) = decides-every (countOf file) _ (λ k. kindOf file k ≡ kind → ⊥) (λ k. decides-not (decides-equal _ _)) .holds e k (o .there) (o .is)
 
   -- refusal 2
   abbrev pub ranged : Bool
@@ -63,12 +69,14 @@ module _ (file : List ℕ) where
       && leb (sizesOf file .evolutions) mostEvolutions
       && eqb (lengthOf file 1) (3 * sizesOf file .states)
       && eqb (sumTo (textLength file (sizesOf file)) (records (sizesOf file))) (lengthOf file 3)
+      && every (countOf file) (λ k. cond (ltb k kinds) true (leb (lengthOf file k) mostText))
 
-  pub four-sized : ranged ≡ true → FourSized file
-  four-sized e =
+  pub sized : ranged ≡ true → Sized file
+  sized e =
       let x = (decides-most _ _ also decides-most _ _ also decides-most _ _ also decides-most _ _ also decides-most _ _ also decides-most _ _
-      also decides-below _ _ also decides-most _ _ also decides-equal _ _ also decides-equal _ _) .holds e in
-      let r = x .0 .0 in
+      also decides-below _ _ also decides-most _ _ also decides-equal _ _ also decides-equal _ _
+      also decides-every (countOf file) _ (λ k. (k < kinds) ⊎ (lengthOf file k ≤ mostText)) (λ k. decides-either (decides-below _ _) (decides-most _ _))) .holds e in
+      let r = x .0 .0 .0 in
       record {
         ranges = record {
           some-input = r .0 .0 .0 .0 .0 .0 .0;
@@ -80,8 +88,9 @@ module _ (file : List ℕ) where
           begins = r .0 .1;
           few-evolutions = r .1;
         };
-        states = x .0 .1;
-        texts = x .1;
+        states = x .0 .0 .1;
+        texts = x .0 .1;
+        bodies = λ k h l. ⊎-elim (λ m. absurd (omega arith)) (λ m. m) (x .1 k l);
       }
 
   -- each state, and each evolution, passes a test

@@ -1,4 +1,4 @@
--- Document 01's starred rows, all of them: those on files from the trees of their texts, those on tables from lists that pass a certificate, those on
+-- The starred rows, all of them: those on files from the trees of their texts, those on tables from lists that pass a certificate, those on
 -- conditions from crate condition.
 use mathlib.Core.Path.{refl}
 use mathlib.Core.List.{[], _∷_}
@@ -14,7 +14,7 @@ use Rattle.verdict.proofs.Order.{pass, halt, long}
 use Rattle.verdict.proofs.Tests.{meets, whole}
 use Rattle.starred.specs.Rows.{lampTable, gateTable, gate, RunRefused, Rows}
 use Rattle.starred.proofs.Machines.{is-rank, not-marked, lamp-sound, lamp-listed, gate-sound, gate-parents, gate-listed}
-use Rattle.starred.proofs.Files.{lamp-read, lamp-table, gate-read, gate-moves, two-refused}
+use Rattle.starred.proofs.Files.{lamp-read, lamp-table, lamp-frame, gate-read, gate-moves, gate-frame, closed-refused, two-refused}
 
 -- the gate passes the checks of marking, and couple 19 is a couple that is not marked
 gate-19 : RunRefused gate 19 15 0
@@ -32,13 +32,14 @@ gate-19 ranks run h =
 pub rows : Rows
 unfolding lampTable gateTable among visited planned
 rows = record {
-  lamp-table = (lamp-read, lamp-table);
+  lamp-table = (lamp-read, lamp-table, lamp-frame);
   lamp-ranks = record { whole = refl; each = lamp-listed .rank };
   lamp-plan = ((0 ∷ []) ∷ (0 ∷ 1 ∷ []) ∷ (0 ∷ 1 ∷ 0 ∷ []) ∷ [], listed-plan lamp-sound _ _ lamp-listed, refl);
-  gate-moves = (gate-read, gate-moves, refl, refl, refl);
+  gate-moves = (gate-read, gate-moves, gate-frame, refl, refl, refl);
   gate-run = followed-run gate-sound (λ d. getD gate-parents d 0) (gate-listed .parent) 3 44 (is-rank (gate-listed .rank 44 (lit< tt)) (lit< tt));
   gate-unmarked = gate-19;
   and-before-or = and-before-or;
   not-before-and = not-before-and;
   two-rules = two-refused;
+  closed-gate = closed-refused;
 }

@@ -20,18 +20,17 @@ use Rattle.machine.proofs.Couples.{couple-below}
 use Rattle.machine.proofs.Same.{Into}
 use Rattle.verdict.proofs.Tests.{true≢false, it-holds, it-fails, decides-map, decides-true, decides-equal, decides-below, decides-both, decides-is}
 use Rattle.machine.proofs.Tests.{every, decides-every}
-use Rattle.specification.specs.File.{countOf, kinds}
 use Rattle.specification.specs.Records.{sizesOf, settings, couples, records}
-use Rattle.specification.specs.Rules.{textOf, ruleOf, leadsTo, Unreads, Fires, TwoRules, NoRule, Moves, MoveAt}
+use Rattle.specification.specs.Rules.{textOf, conditions, conditionOf, ruleOf, leadsTo, Unreads, Fires, TwoRules, NoRule, Moves, MoveAt}
 use Rattle.specification.proofs.Conditions.{condition-record}
 
 -- two tests say the same
-abbrev same : Bool → Bool → Bool
+abbrev pub same : Bool → Bool → Bool
 same true b = b
 same false true = false
 same false false = true
 
-decides-same : (a b : Bool) → Decides (a ≡ b) (same a b)
+pub decides-same : (a b : Bool) → Decides (a ≡ b) (same a b)
 decides-same true b = decides-map sym sym (decides-true b)
 decides-same false true = it-fails (λ e. true≢false (sym e))
 decides-same false false = it-holds refl
@@ -90,11 +89,11 @@ module _ (file : List ℕ) where
   abbrev pub treeOf : List (Tree condition) → ℕ → Tree condition
   treeOf trees r = getD trees r (one (one off))
 
-  -- each record's text is that of its tree, within the limits
+  -- the text of each condition is that of its tree, within the limits
   unfoldable pub spelling : List (Tree condition) → Bool
   unfolding sameText lettersBelow
-  spelling trees = every (records (sizesOf file)) (λ r.
-      sameText (text (treeOf trees r)) (textOf file (sizesOf file) r) && leb (opened (treeOf trees r)) parentheses && lettersBelow (sizesOf file .inputs) (treeOf trees r))
+  spelling trees = every (conditions (sizesOf file)) (λ r.
+      sameText (text (treeOf trees r)) (conditionOf file (sizesOf file) r) && leb (opened (treeOf trees r)) parentheses && lettersBelow (sizesOf file .inputs) (treeOf trees r))
 
   module _ (trees : List (Tree condition)) where
     -- record r is a rule of s, and its tree holds at v
@@ -102,23 +101,22 @@ module _ (file : List ℕ) where
     firing s v r = cond (eqb (ruleOf file (sizesOf file) r) s) (holds v (treeOf trees r)) false
 
     module _ (spelt : spelling trees ≡ true) where
-      reads : (r : ℕ) → r < records (sizesOf file) → Reads (sizesOf file .inputs) (textOf file (sizesOf file) r)
+      reads-as : (r : ℕ) → r < conditions (sizesOf file) → {w : List ℕ} → conditionOf file (sizesOf file) r ≡ w → Reads (sizesOf file .inputs) w
       unfolding spelling
-      reads r h =
-          let (e, k) = both _ _ (decides-every (records (sizesOf file)) _ _ (λ r. decides-true _) .holds spelt r h) in
+      reads-as r h is =
+          let (e, k) = both _ _ (decides-every (conditions (sizesOf file)) _ _ (λ r. decides-true _) .holds spelt r h) in
           let (t, o) = both _ _ e in
-          record { tree = treeOf trees r; spelt = one-text _ _ t; nested = leb-true _ _ o; known = letters-below (sizesOf file .inputs) (treeOf trees r) k }
+          record { tree = treeOf trees r; spelt = one-text _ _ t ∙ is; nested = leb-true _ _ o; known = letters-below (sizesOf file .inputs) (treeOf trees r) k }
 
-      -- refusal 5, without kind 5
-      pub none-unread : countOf file ≡ kinds → None (Unreads file (sizesOf file))
-      none-unread four = record {
-        nowhere = λ r x.
-            let h : r < records (sizesOf file) = omega (arith, x .below) in
-            x .unread (rw (condition-record file (sizesOf file) r h) (reads r h));
-      }
+      reads : (r : ℕ) → r < records (sizesOf file) → Reads (sizesOf file .inputs) (textOf file (sizesOf file) r)
+      reads r h = reads-as r (omega arith) (condition-record file (sizesOf file) r h)
+
+      -- refusal 5
+      pub none-unread : None (Unreads file (sizesOf file))
+      none-unread = record { nowhere = λ r x. x .unread (reads-as r (x .below) refl) }
 
       decides-fires : (s v r : ℕ) → r < records (sizesOf file) → Decides (Fires file (sizesOf file) s v r) (firing s v r)
-      unfolding reads
+      unfolding reads reads-as
       decides-fires s v r h = decides-map
           (λ x. record { below = h; rule = x .0; holds = record { reads = reads r h; true-there = x .1 } })
           (λ x. (x .rule, ap (λ t. holds v t) (one-tree _ _ ((reads r h) .spelt ∙ sym (x .holds .reads .spelt))) ∙ x .holds .true-there))

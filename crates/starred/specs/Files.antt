@@ -1,4 +1,4 @@
--- The specification files of document 01's examples, byte by byte. Assumes nothing: these are definitions.
+-- The specification files of the starred rows, byte by byte. Assumes nothing: these are definitions.
 use mathlib.Core.List.{List, [], _∷_, _++_}
 use Prim.Native.Nat.{ℕ, _+_}
 use lib.ListN.{length}
@@ -33,15 +33,10 @@ lampFile = lampWith "!a"
 abbrev pub twoRulesFile : List ℕ
 twoRulesFile = lampWith "1"
 
--- the gate
-unfoldable pub gateFile : List ℕ
-gateFile =
-    letters "SEQ1" ++ (4
-    ∷ 1 ∷ 25 ∷ 0 ∷ 4 ∷ 0
-    ∷ 2 ∷ 29 ∷ 0 ∷ 9 ∷ 0
-    ∷ 3 ∷ 38 ∷ 0 ∷ 18 ∷ 0
-    ∷ 4 ∷ 56 ∷ 0 ∷ 83 ∷ 0
-    ∷ 4 ∷ 2 ∷ 3 ∷ 0
+-- the bodies of the gate, kinds 1 to 4
+abbrev pub gateBodies : List ℕ
+gateBodies =
+    4 ∷ 2 ∷ 3 ∷ 0
     ∷ 0 ∷ 0 ∷ 12
     ∷ 1 ∷ 0 ∷ 8
     ∷ 2 ∷ 0 ∷ 2
@@ -61,4 +56,25 @@ gateFile =
     ∷ "!c.(b+!d.a)"
     ∷ "c.(d+b+a)"
     ∷ "!d.c.!b.!a"
-    ∷ []))
+    ∷ [])
+
+-- the gate, with the kind 6 `1`
+unfoldable pub gateFile : List ℕ
+gateFile =
+    letters "SEQ1" ++ (5
+    ∷ 1 ∷ 30 ∷ 0 ∷ 4 ∷ 0
+    ∷ 2 ∷ 34 ∷ 0 ∷ 9 ∷ 0
+    ∷ 3 ∷ 43 ∷ 0 ∷ 18 ∷ 0
+    ∷ 4 ∷ 61 ∷ 0 ∷ 83 ∷ 0
+    ∷ 6 ∷ 144 ∷ 0 ∷ 1 ∷ 0
+    ∷ gateBodies ++ letters "1")
+
+-- and without it
+unfoldable pub closedGateFile : List ℕ
+closedGateFile =
+    letters "SEQ1" ++ (4
+    ∷ 1 ∷ 25 ∷ 0 ∷ 4 ∷ 0
+    ∷ 2 ∷ 29 ∷ 0 ∷ 9 ∷ 0
+    ∷ 3 ∷ 38 ∷ 0 ∷ 18 ∷ 0
+    ∷ 4 ∷ 56 ∷ 0 ∷ 83 ∷ 0
+    ∷ gateBodies)
