@@ -4,12 +4,13 @@
  * Words used below. A setting is a number below 2^inputs; input a weighs 1, b 2, and so on to h.
  * The couple (state, setting) has the number state * 2^inputs + setting. A table gives each couple
  * its move: the state that follows. A couple is at rest if its move is its own state. Settings may be
- * ruled out: no run uses them. A run is a start, a setting not ruled out at which the initial state
- * rests, then settings not ruled out that each differ from the one before in exactly one input. It
- * visits the couple of its start and, at each change, that of the state and the new setting, then the
- * one it moves to. A file's records are its states, then its evolutions, then the condition of kind 5
- * if it has one, at which a setting is ruled out; they are numbered from 0. A buffer's needed part is
- * what the answer uses of it.
+ * ruled out: no run uses them. A run is a start, one of the allowed starts that is not ruled out and at
+ * which the initial state rests, then settings not ruled out that each differ from the one before in
+ * exactly one input. It visits the couple of its start and, at each change, that of the state and the
+ * new setting, then the one it moves to. A file's records are its states, then its evolutions, then
+ * the condition of kind 5 if it has one, at which a setting is ruled out, then that of kind 6 if it has
+ * one, at which a setting is an allowed start; they are numbered from 0. A buffer's needed part is what
+ * the answer uses of it.
  *
  * Every function takes any numbers and any contents. A pointer is never null, whatever its length,
  * and valid for the number of elements that its length names; a buffer that is written does not
@@ -19,13 +20,13 @@
  *
  *   No.  when                                                      place
  *    1   file too long or too short, or its contents wrong         0
- *        (bodies of kinds 1 to 4, kind 5 after them or not)
+ *        (bodies of kinds 1 to 4, then kind 5 or not, then kind 6 or not)
  *    2   a size outside its range, or sizes that do not agree      0
- *        (kind 5 has at most 255 bytes)
+ *        (kinds 5 and 6 have at most 255 bytes each)
  *    3   a table, word, record, rank or reading buffer too short   needed elements of the first such
  *    4   output bit beyond the outputs; state not below states     record, or couple
- *    5   condition does not read                                   record (kind 5: after the last evolution),
- *                                                                  and beside it the character
+ *    5   condition does not read                                   record (kinds 5 and 6: after the last
+ *                                                                  evolution), and beside it the character
  *    6   evolution to its own source                               record
  *    7   same source and target as an earlier evolution            record
  *    8   two rules hold                                            couple
@@ -33,11 +34,13 @@
  *   10   transient: the move's own couple is not at rest           couple
  *   11   output word of an earlier state                           state
  *   12   state never reached                                       state
- *   13   no start, or each one ruled out                           0
+ *   13   no start: the initial state rests at no allowed           0
+ *        start that is not ruled out
  *   14   asked couple not below states * 2^inputs                  0
  *   15   asked couple not marked                                   0
  *   16   run or plan buffer short                                  bytes needed
- *   17   not a run (a setting ruled out is a fault)                index of the first fault, 0 if empty
+ *   17   not a run (a setting ruled out is a fault, and so is      index of the first fault, 0 if empty
+ *        a start that is not allowed)
  *   18   log not sound, or its readings at 4294967295              0
  *   19   plan bytes that do not split into runs, or a run          byte where that run starts
  *        that 17 refuses
@@ -60,17 +63,21 @@ extern "C" {
 typedef struct { size_t number, place; } mundrefol_answer;
 
 /*
- * What a table job is told beside the table: the numbers of inputs and states, the initial state, and
- * the settings that are ruled out. Setting v is ruled out if bit v % 64 of never[v / 64] is 1. Reading
- * leaves the bits at and beyond 2^inputs zero; the table jobs give them no meaning.
+ * What a table job is told beside the table: the numbers of inputs and states, the initial state, the
+ * settings that are ruled out, and the allowed starts. Setting v is ruled out if bit v % 64 of
+ * never[v / 64] is 1, and an allowed start if that bit of starts[v / 64] is; with no bit of starts set
+ * there is no start. Reading leaves the bits at and beyond 2^inputs zero; the table jobs give them no
+ * meaning.
  */
-typedef struct { size_t inputs, states, initial; uint64_t never[4]; } mundrefol_frame;
+typedef struct { size_t inputs, states, initial; uint64_t never[4]; uint64_t starts[4]; } mundrefol_frame;
 
 /*
  * The answer of reading a file: number and place; the character, zero except with 5; outputs, evolutions
  * and frame of the file, all zero on refusal. The character is the smallest number of leading
  * characters that no text behind them, however long, makes a condition that reads at these inputs; if
- * the condition only stops too early, its length + 1. Without kind 5 no setting is ruled out. The frame
+ * the condition only stops too early, its length + 1. Without kind 5 no setting is ruled out. Without
+ * kind 6 setting 0 is the only allowed start: power-up with all contacts open. The allowed starts are
+ * all those that kind 6 says, ruled out or not, whether the initial state rests there or not. The frame
  * goes to the table jobs as it is.
  */
 typedef struct { size_t number, place, character, outputs, evolutions; mundrefol_frame frame; } mundrefol_contents;

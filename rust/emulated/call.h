@@ -41,14 +41,14 @@ typedef struct {
 _Static_assert(__BYTE_ORDER__ == __ORDER_LITTLE_ENDIAN__, "low byte first");
 _Static_assert(sizeof(bool) == 1, "bool");
 _Static_assert(sizeof(mundrefol_answer) == 16, "answer");
-_Static_assert(sizeof(mundrefol_frame) == 56, "frame");
-_Static_assert(sizeof(mundrefol_contents) == 96, "contents");
+_Static_assert(sizeof(mundrefol_frame) == 88, "frame");
+_Static_assert(sizeof(mundrefol_contents) == 128, "contents");
 _Static_assert(sizeof(mundrefol_evolution) == 6, "evolution");
 _Static_assert(sizeof(mundrefol_entry) == 6, "entry");
 _Static_assert(sizeof(mundrefol_log) == 204, "log");
 _Static_assert(sizeof(mundrefol_noted) == 24, "noted");
-_Static_assert(sizeof(call) == 168, "call");
-_Static_assert(sizeof(call_answer) == 96, "call_answer");
-_Static_assert(offsetof(call_memory, room) == 320, "call_memory.room");
+_Static_assert(sizeof(call) == 200, "call");
+_Static_assert(sizeof(call_answer) == 128, "call_answer");
+_Static_assert(offsetof(call_memory, room) == 384, "call_memory.room");
 
 #endif

@@ -10,27 +10,59 @@ pub struct Example {
     pub bytes: Vec<u8>,
 }
 
+fn example(name: &'static str, bytes: Vec<u8>) -> Example {
+    Example { name, bytes }
+}
+
 /// Every example of the folder, in the order of their names.
 pub fn all() -> Vec<Example> {
-    let example = |name, bytes| Example { name, bytes };
+    let mut all = sound();
+    all.extend(refused_for_bytes());
+    all.extend(refused_for_rules());
+    all.sort_by_key(|example| example.name);
+    all
+}
+
+/// The files that print a sheet.
+fn sound() -> Vec<Example> {
     vec![
         example("cutter", cutter().bytes()),
         example("cutter-alarm", cutter_alarm().bytes()),
+        example("cutter-at-the-top", cutter().starts("b").bytes()),
         example("gate", gate().bytes()),
+        example("gate-two-starts", gate().starts("!a.!b.d").bytes()),
         example("lamp", lamp().bytes()),
+        example("table-iv", table_iv().bytes()),
+    ]
+}
+
+/// Files refused by 1 to 5: contents, sizes, numbers and texts.
+fn refused_for_bytes() -> Vec<Example> {
+    vec![
         example("refused-01-kind-4-twice", with_kinds(lamp().never("a"), &[1, 2, 3, 4, 4])),
+        example("refused-01-kind-6-before-5", kind_6_before_5()),
         example("refused-01-kinds-1-2-3-5", with_kinds(lamp(), &[1, 2, 3, 5])),
-        example("refused-01-six-entries", six_entries()),
+        example("refused-01-seven-entries", seven_entries()),
         example("refused-01-wrong-mark", wrong_mark()),
         example("refused-02-long-kind-5", lamp().never(&padded("!a".into(), TEXT + 1)).bytes()),
+        example("refused-02-long-kind-6", lamp().starts(&padded("!a".into(), TEXT + 1)).bytes()),
         example("refused-02-nine-inputs", File { inputs: 9, ..lamp() }.bytes()),
         example("refused-04-output-bit", with_word(lamp(), 1, 3).bytes()),
         example("refused-05-bad-character", with_condition(gate(), 4, "!c.(b+!d,a)").bytes()),
         example("refused-05-bad-letter", with_condition(gate(), 0, "c.(b+a)+e.!b").bytes()),
         example("refused-05-kind-5-does-not-read", cutter().never("b.").bytes()),
         example("refused-05-kind-5-is-empty", cutter().never("").bytes()),
+        example("refused-05-kind-6-after-kind-5", cutter().starts("b.").bytes()),
+        example("refused-05-kind-6-alone", gate().starts("!a.!b.e").bytes()),
+        example("refused-05-kind-6-is-empty", lamp().starts("").bytes()),
         example("refused-05-ninth-parenthesis", ninth_parenthesis().bytes()),
         example("refused-05-stops-too-early", with_condition(lamp(), 3, "!a+").bytes()),
+    ]
+}
+
+/// Files refused by 6 and more.
+fn refused_for_rules() -> Vec<Example> {
+    vec![
         example("refused-06-own-source", own_source().bytes()),
         example("refused-07-same-states", same_states().bytes()),
         example("refused-08-two-rules", with_condition(lamp(), 0, "1").bytes()),
@@ -39,9 +71,10 @@ pub fn all() -> Vec<Example> {
         example("refused-11-same-word", with_word(gate(), 2, 1).bytes()),
         example("refused-12-never-reached", never_reached().bytes()),
         example("refused-13-all-starts-ruled-out", lamp().never("!a").bytes()),
+        example("refused-13-gate-at-power-up", File { starts: None, ..gate() }.bytes()),
+        example("refused-13-kind-6-ruled-out", cutter().starts("b.c").bytes()),
         example("refused-13-no-start", no_start().bytes()),
         example("refused-16-long-plan", counter(8, 32).bytes()),
-        example("table-iv", table_iv().bytes()),
     ]
 }
 
@@ -50,7 +83,8 @@ pub fn lamp() -> File {
     File::new(1, 1, &[(0, "!a"), (1, "a")], &[(0, 1, "a"), (1, 0, "!a")])
 }
 
-/// Document 01's gate: source document 002, table 1; its v, r, o, c are a, b, c, d.
+/// Document 01's gate: source document 002, table 1; its v, r, o, c are a, b, c, d. Its reset works at
+/// every setting.
 pub fn gate() -> File {
     File::new(
         4,
@@ -65,6 +99,7 @@ pub fn gate() -> File {
             (2, 1, "!d.c.!b.!a"),
         ],
     )
+    .starts("1")
 }
 
 /// A press with a cutter: a is the start button, b closes with the cutter at the top, c at the bottom;
@@ -103,7 +138,8 @@ pub fn cutter_alarm() -> File {
     .never("b.c")
 }
 
-/// Source document 001, table IV: s1 to s5 are states 0 to 4. The words are the states' numbers.
+/// Source document 001, table IV: s1 to s5 are states 0 to 4. The words are the states' numbers, and
+/// a run may start wherever s1 rests.
 pub fn table_iv() -> File {
     File::new(
         3,
@@ -124,6 +160,7 @@ pub fn table_iv() -> File {
             (4, 2, "!a.b"),
         ],
     )
+    .starts("1")
 }
 
 /// A ring of states that input a steps through at each of its changes; the other inputs do nothing.
@@ -158,10 +195,15 @@ fn with_kinds(file: File, kinds: &[u8]) -> Vec<u8> {
     with_contents(&bodies.collect::<Vec<_>>())
 }
 
-/// The lamp with two bodies more, the second of a kind that there is not.
-fn six_entries() -> Vec<u8> {
-    let mut bodies = lamp().never("0").bodies();
-    bodies.push((6, b"1".to_vec()));
+/// The lamp with kind 6 `1` before kind 5 `0`.
+fn kind_6_before_5() -> Vec<u8> {
+    with_kinds(lamp().never("1").starts("0"), &[1, 2, 3, 4, 6, 5])
+}
+
+/// The lamp with three bodies more, the last of a kind that there is not.
+fn seven_entries() -> Vec<u8> {
+    let mut bodies = lamp().never("0").starts("1").bodies();
+    bodies.push((7, b"1".to_vec()));
     with_contents(&bodies)
 }
 
@@ -197,7 +239,7 @@ fn never_reached() -> File {
     File::new(1, 2, &[(0, "!a"), (1, "a"), (2, "a")], &[(0, 1, "a"), (1, 0, "!a"), (2, 0, "!a")])
 }
 
-/// A lamp whose initial state rests at no setting.
+/// A lamp whose initial state rests at no setting, though each is an allowed start.
 fn no_start() -> File {
     File::new(
         1,
@@ -205,4 +247,5 @@ fn no_start() -> File {
         &[(0, "0"), (1, "a"), (2, "!a")],
         &[(0, 1, "a"), (0, 2, "!a"), (1, 2, "!a"), (2, 1, "a")],
     )
+    .starts("1")
 }

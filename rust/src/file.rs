@@ -10,6 +10,8 @@ pub struct File {
     pub evolutions: Vec<Leaving>,
     /// The condition at which a setting is never used, if the file has one.
     pub never: Option<String>,
+    /// The condition at which a run may start, if the file has one.
+    pub starts: Option<String>,
 }
 
 /// A state: its output word and its rest condition.
@@ -29,7 +31,7 @@ pub struct Leaving {
 
 impl File {
     /// A specification from its states (word, rest) and evolutions (source, target, condition),
-    /// with initial state 0 and every setting used.
+    /// with initial state 0, every setting used, and setting 0 as the only allowed start.
     pub fn new(
         inputs: u8,
         outputs: u8,
@@ -49,6 +51,7 @@ impl File {
             states: states.iter().map(state).collect(),
             evolutions: evolutions.iter().map(leaving).collect(),
             never: None,
+            starts: None,
         }
     }
 
@@ -57,11 +60,17 @@ impl File {
         File { never: Some(condition.to_string()), ..self }
     }
 
-    /// The conditions in the order of the records, to be changed: states, evolutions, settings never used.
+    /// The specification with allowed starts: the settings at which the condition holds.
+    pub fn starts(self, condition: &str) -> File {
+        File { starts: Some(condition.to_string()), ..self }
+    }
+
+    /// The conditions in the order of the records, to be changed: states, evolutions, settings never
+    /// used, allowed starts.
     pub fn conditions_mut(&mut self) -> impl Iterator<Item = &mut String> {
         let rests = self.states.iter_mut().map(|state| &mut state.rest);
         let leaving = self.evolutions.iter_mut().map(|it| &mut it.condition);
-        rests.chain(leaving).chain(&mut self.never)
+        rests.chain(leaving).chain(&mut self.never).chain(&mut self.starts)
     }
 
     /// The condition of a record of the file, to be changed.
@@ -99,7 +108,9 @@ impl File {
             texts.extend(it.condition.bytes());
         }
         let mut bodies = vec![(1, sizes), (2, states), (3, evolutions), (4, texts)];
-        bodies.extend(self.never.iter().map(|text| (5, text.clone().into_bytes())));
+        let optional = [(5, &self.never), (6, &self.starts)];
+        let body = |(kind, text): (u8, &Option<String>)| Some((kind, text.clone()?.into_bytes()));
+        bodies.extend(optional.into_iter().filter_map(body));
         bodies
     }
 }

@@ -9,7 +9,7 @@ pub mod file;
 pub mod generate;
 pub mod plain;
 
-use plain::{ENTRIES, WORDS};
+use plain::{Set, ENTRIES};
 
 /// The answer of a table job: number 0 is success, any other a refusal.
 #[repr(C)]
@@ -20,14 +20,15 @@ pub struct Answer {
 }
 
 /// What a table job is told beside the table: the numbers of inputs and states, the initial state,
-/// and the settings never used; setting v is one if bit v % 64 of word v / 64 is 1.
+/// the settings never used, and those at which a run may start.
 #[repr(C)]
 #[derive(Clone, Copy, Debug, Default, PartialEq, Eq)]
 pub struct Frame {
     pub inputs: usize,
     pub states: usize,
     pub initial: usize,
-    pub never: [u64; WORDS],
+    pub never: Set,
+    pub starts: Set,
 }
 
 /// The answer of reading a file; the character with refusal 5 alone; outputs, evolutions and frame of
@@ -83,7 +84,7 @@ pub struct Noted {
 /// The layouts of the header.
 const _: () = {
     assert!(size_of::<Answer>() == 2 * size_of::<usize>());
-    assert!(size_of::<Frame>() == 3 * size_of::<usize>() + 32);
+    assert!(size_of::<Frame>() == 3 * size_of::<usize>() + 64);
     assert!(size_of::<Contents>() == 5 * size_of::<usize>() + size_of::<Frame>());
     assert!(size_of::<Evolution>() == 6);
     assert!(size_of::<Entry>() == 6);

@@ -17,12 +17,13 @@ fn add(bytes: &mut [u8], at: usize, more: u16) {
 pub fn other_bodies(random: &mut Random, file: &File) -> Vec<(u8, Vec<u8>)> {
     let mut bodies = file.bodies();
     let at = random.below(bodies.len());
-    match random.below(6) {
-        0 => bodies[at].0 = random.below(8) as u8,
+    match random.below(7) {
+        0 => bodies[at].0 = random.below(9) as u8,
         1 => drop(bodies.remove(at)),
         2 => bodies.swap(at, 0),
-        3 => bodies.insert(at, bodies[at].clone()),
-        4 => bodies.insert(0, (0, Vec::new())),
+        3 => bodies.swap(at, at.saturating_sub(1)),
+        4 => bodies.insert(at, bodies[at].clone()),
+        5 => bodies.insert(0, (0, Vec::new())),
         _ => bodies.push((random.between(4, 9) as u8, b"a".to_vec())),
     }
     bodies

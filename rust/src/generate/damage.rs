@@ -2,7 +2,7 @@
 
 use super::contents::{first_body, other_bodies, recount, shift_entry, wrap_contents};
 use super::files::{largest_file, random_file, settled_file};
-use super::never::spoil_never;
+use super::sets::spoil_optional;
 use super::texts::{nested, random_condition};
 use super::unreadable::unreadable;
 use super::Random;
@@ -26,7 +26,7 @@ fn spoil(random: &mut Random, file: &mut File) {
         8 => drop_state_or_evolution(random, file),
         9 => add_lonely_state(file),
         10 => no_start(file),
-        11 | 12 => spoil_never(random, file),
+        11..=13 => spoil_optional(random, file),
         _ => spoil_evolution(random, file),
     }
 }

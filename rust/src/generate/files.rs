@@ -1,6 +1,6 @@
 //! Specification files: sound ones, random ones, and the largest.
 
-use super::never::never_text;
+use super::sets::add_optional;
 use super::tables::{sizes, Regions};
 use super::texts::{dressed, nested, random_condition, sum_of_products, Product};
 use super::Random;
@@ -43,14 +43,8 @@ pub fn file_of_regions(
             }
         }
     }
-    File {
-        inputs: regions.inputs as u8,
-        outputs: outputs as u8,
-        initial: initial as u8,
-        states,
-        evolutions,
-        never: None,
-    }
+    let bare = File::new(regions.inputs as u8, outputs as u8, &[], &[]);
+    File { initial: initial as u8, states, evolutions, ..bare }
 }
 
 /// Regions in which every state is reached, if a few attempts find them.
@@ -68,7 +62,7 @@ fn reached_regions(random: &mut Random, initial: usize, inputs: usize, states: u
 
 /// A file whose rules settle: exactly one holds at each couple, and no couple is transient. It may
 /// have words that agree, states that are never reached, or no start; rarely it has a transient. Half
-/// of the files rule settings out.
+/// of the files rule settings out, most say where a run may start.
 pub fn settled_file(random: &mut Random) -> File {
     let (inputs, states) = sizes(random);
     let initial = random.below(states);
@@ -92,9 +86,7 @@ pub fn settled_file(random: &mut Random) -> File {
     if random.once_in(6) {
         add_idle_evolution(random, &mut file);
     }
-    if random.once_in(2) {
-        file.never = Some(never_text(random, &file));
-    }
+    add_optional(random, &mut file);
     file
 }
 
@@ -121,8 +113,10 @@ pub fn random_file(random: &mut Random) -> File {
         condition: random_condition(random, inputs),
     };
     let evolutions = (0..random.below(5)).map(|_| leaving(random)).collect();
-    let never = random.once_in(3).then(|| random_condition(random, inputs));
-    File { inputs: inputs as u8, outputs: outputs as u8, initial: 0, states, evolutions, never }
+    let [never, starts] =
+        [0; 2].map(|_| random.once_in(3).then(|| random_condition(random, inputs)));
+    let bare = File::new(inputs as u8, outputs as u8, &[], &[]);
+    File { states, evolutions, never, starts, ..bare }
 }
 
 /// Any bytes, now and then after a right beginning.
@@ -131,7 +125,7 @@ pub fn random_bytes(random: &mut Random) -> Vec<u8> {
     let mut bytes: Vec<u8> = (0..length).map(|_| random.bits() as u8).collect();
     if random.once_in(2) && bytes.len() >= 5 {
         bytes[..4].copy_from_slice(b"SEQ1");
-        bytes[4] = random.between(3, 6) as u8;
+        bytes[4] = random.between(3, 7) as u8;
     }
     bytes
 }
@@ -149,8 +143,11 @@ fn pad(file: &mut File, bytes: usize) {
     assert!(missing < 2, "{missing} bytes do not fit");
 }
 
+/// Bytes that kind 6 `1` adds to a file: its entry and its text.
+const STARTS_BYTES: usize = 6;
+
 /// A sound file of 8 inputs, 32 states and 992 evolutions with that many bytes: at each setting one
-/// state rests, and every other moves to it.
+/// state rests, and every other moves to it; kind 6 is `1`.
 pub fn largest_file(bytes: usize) -> File {
     let part = |state: usize| (Product { named: STATES - 1, on: state }, vec![state as u8; STATES]);
     let regions =
@@ -173,8 +170,8 @@ pub fn largest_file(bytes: usize) -> File {
         }
     });
     assert_eq!(file.evolutions.len(), EVOLUTIONS);
-    spread_padding(&mut file, bytes);
-    file
+    spread_padding(&mut file, bytes - STARTS_BYTES);
+    file.starts("1")
 }
 
 /// Pads every condition about evenly, then the first ones up to the whole size.

@@ -3,15 +3,14 @@
 mod contents;
 mod damage;
 mod files;
-mod never;
 mod plans;
+mod sets;
 mod tables;
 mod texts;
 mod unreadable;
 
 pub use damage::damaged;
 pub use files::{file_of_regions, largest_file, random_bytes, random_file, settled_file};
-pub use never::{any_set, never_text, set_of};
 pub use plans::{any_plan, any_runs, plan_of, runs_of, spoil_run, stored, walk};
 pub use tables::{any_table, longest_table, sizes, Regions, Table};
 pub use texts::{all_texts, dressed, nested, padded, random_condition, sum_of_products};

@@ -45,12 +45,14 @@ fn resting(table: &Table) -> impl Iterator<Item = usize> + '_ {
 }
 
 /// So many settings from a start, or from any setting if there is none, each changing one input;
-/// fewer if none can be changed. A careless walk uses settings that are ruled out.
+/// fewer if none can be changed. A careless walk uses settings that are ruled out, and starts at any at
+/// which the initial state rests.
 pub fn walk(random: &mut Random, table: &Table, count: usize, careless: bool) -> Vec<u8> {
     let inputs = inputs(table);
     let used = |&setting: &usize| careless || !table.frame.rules_out(setting);
     let any = random.below(1 << inputs);
-    let mut next: Vec<usize> = resting(table).filter(used).collect();
+    let allowed = |&setting: &usize| careless || table.frame.allows_start(setting);
+    let mut next: Vec<usize> = resting(table).filter(used).filter(allowed).collect();
     if next.is_empty() {
         next.push(any);
     }

@@ -1,9 +1,9 @@
 //! Tables of moves: settled ones, arbitrary ones, and the one with the longest runs.
 
-use super::never::any_set;
+use super::sets::{any_set, any_starts};
 use super::texts::Product;
 use super::Random;
-use crate::plain::{INPUTS, STATES};
+use crate::plain::{EVERY_SETTING, INPUTS, STATES};
 use crate::Frame;
 
 /// A table with its frame.
@@ -152,8 +152,17 @@ fn settle(moves: &mut [u8], settings: usize) {
     }
 }
 
+/// Lets no other state move to this one, so that it matters more where runs start: those that did rest.
+fn leave_for_good(moves: &mut [u8], state: usize, settings: usize) {
+    for (couple, to) in moves.iter_mut().enumerate() {
+        if usize::from(*to) == state {
+            *to = (couple / settings) as u8;
+        }
+    }
+}
+
 /// Some table: mostly sound, some with transients, some with states beyond the last; any settings
-/// may be ruled out.
+/// may be ruled out, and any may be allowed starts.
 pub fn any_table(random: &mut Random) -> Table {
     let (inputs, states) = sizes(random);
     let mut moves = match random.below(8) {
@@ -165,15 +174,18 @@ pub fn any_table(random: &mut Random) -> Table {
         }
         _ => settled_table(random, inputs, states),
     };
-    let couples = moves.len();
+    let (initial, settings, couples) = (random.below(states), 1 << inputs, moves.len());
+    if random.once_in(3) {
+        leave_for_good(&mut moves, initial, settings);
+    }
     match random.below(12) {
         0 => moves[random.below(couples)] = random.between(states, 255) as u8,
         1 => moves[random.below(couples)] = random.below(states) as u8,
         2 => *moves.last_mut().expect("a table has couples") = states as u8,
         _ => {}
     }
-    let (initial, never) = (random.below(states), any_set(random, 1 << inputs));
-    Table { frame: Frame { inputs, states, initial, never }, moves }
+    let (never, starts) = (any_set(random, settings), any_starts(random, settings));
+    Table { frame: Frame { inputs, states, initial, never, starts }, moves }
 }
 
 /// Inputs changed one after the other along a path of settings of 8 inputs no two of which differ in
@@ -183,7 +195,7 @@ const SNAKE: &[u8] =
 
 /// The table of 8 inputs and 32 states with the longest runs we know. State 0 rests everywhere but at
 /// setting 0; each other state rests along a path of its own, hands on to the next state at the
-/// path's end, and falls back at every other setting.
+/// path's end, and falls back at every other setting. Every setting is an allowed start.
 pub fn longest_table() -> Table {
     let settings = 1 << INPUTS;
     let mut moves = vec![0; STATES * settings];
@@ -202,5 +214,6 @@ pub fn longest_table() -> Table {
             moves[state * settings + setting] = state as u8 + 1;
         }
     }
-    Table { frame: Frame { inputs: INPUTS, states: STATES, ..Frame::default() }, moves }
+    let starts = EVERY_SETTING;
+    Table { frame: Frame { inputs: INPUTS, states: STATES, starts, ..Frame::default() }, moves }
 }

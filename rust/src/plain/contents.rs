@@ -7,12 +7,13 @@ const MARK: &[u8] = b"SEQ1";
 const ENTRY_BYTES: usize = 5;
 const SIZES_BYTES: usize = 4;
 
-/// Kinds of bodies; the last may be missing.
+/// Kinds of bodies; each of the last two may be missing.
 const SIZES: u8 = 1;
 const STATES: u8 = 2;
 const EVOLUTIONS: u8 = 3;
 const TEXTS: u8 = 4;
 const NEVER: u8 = 5;
+const STARTS: u8 = 6;
 
 /// Bytes of a record of a state or an evolution.
 pub const RECORD_BYTES: usize = 3;
@@ -24,6 +25,7 @@ pub struct Bodies {
     pub evolutions: Range<usize>,
     pub texts: Range<usize>,
     pub never: Option<Range<usize>>,
+    pub starts: Option<Range<usize>>,
 }
 
 impl Bodies {
@@ -47,8 +49,14 @@ impl Bodies {
             evolutions: place(EVOLUTIONS)?,
             texts: place(TEXTS)?,
             never: place(NEVER),
+            starts: place(STARTS),
         };
         bodies.lengths_fit().then_some(bodies)
+    }
+
+    /// The conditions that may be missing, in the order of their records.
+    pub fn optional(&self) -> impl Iterator<Item = &Range<usize>> {
+        self.never.iter().chain(&self.starts)
     }
 
     fn lengths_fit(&self) -> bool {
@@ -61,7 +69,7 @@ impl Bodies {
 /// Whether the kinds rise, are known, and those that are always there are among them.
 fn kinds_fit(kinds: &[u8]) -> bool {
     kinds.windows(2).all(|pair| pair[0] < pair[1])
-        && kinds.iter().all(|kind| (SIZES..=NEVER).contains(kind))
+        && kinds.iter().all(|kind| (SIZES..=STARTS).contains(kind))
         && (SIZES..=TEXTS).all(|kind| kinds.contains(&kind))
 }
 

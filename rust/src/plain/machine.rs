@@ -1,6 +1,6 @@
 //! A table lent to a job: its moves, and the checks that every table job asks.
 
-use super::{check_lengths, refuse_at, INPUTS, STATES, WORD_BITS};
+use super::{check_lengths, is_member, refuse_at, INPUTS, STATES};
 use crate::{Answer, Frame};
 
 /// A frame within its ranges, and the move of each couple.
@@ -25,7 +25,12 @@ impl Frame {
 
     /// Whether a setting is never used.
     pub fn rules_out(&self, setting: usize) -> bool {
-        self.never[setting / WORD_BITS] >> (setting % WORD_BITS) & 1 == 1
+        is_member(&self.never, setting)
+    }
+
+    /// Whether a setting is one of the allowed starts.
+    pub fn allows_start(&self, setting: usize) -> bool {
+        is_member(&self.starts, setting)
     }
 }
 
@@ -95,7 +100,9 @@ impl<'a> Machine<'a> {
 
     /// Whether a run may start at a setting.
     pub fn starts(&self, setting: usize) -> bool {
-        !self.frame.rules_out(setting) && self.rests(self.couple(self.frame.initial, setting))
+        self.frame.allows_start(setting)
+            && !self.frame.rules_out(setting)
+            && self.rests(self.couple(self.frame.initial, setting))
     }
 
     /// Check 4: every move is a state.

@@ -4,8 +4,8 @@ use super::character::character;
 use super::condition::holds;
 use super::contents::{Bodies, RECORD_BYTES};
 use super::machine::Machine;
-use super::{check_lengths, refuse_at};
-use super::{EVOLUTIONS, NO_MOVE, NO_WORD, OUTPUTS, STATES, TEXT, WORDS, WORD_BITS};
+use super::{check_lengths, refuse_at, set_of, Set};
+use super::{EVOLUTIONS, NO_MOVE, NO_SETTING, NO_WORD, OUTPUTS, POWER_UP, STATES, TEXT};
 use crate::{Answer, Contents, Evolution, Frame};
 use std::ops::Range;
 
@@ -42,7 +42,7 @@ fn refused(answer: Answer) -> Contents {
     Contents { answer, ..Contents::default() }
 }
 
-/// A file that passes checks 1 to 3: its sizes, with no setting ruled out, and its bodies.
+/// A file that passes checks 1 to 3: its sizes, in a frame whose sets are still empty, and its bodies.
 struct Layout<'a> {
     file: &'a [u8],
     frame: Frame,
@@ -59,7 +59,7 @@ impl<'a> Layout<'a> {
         let (inputs, states, initial) = (size(0), size(2), size(3));
         let layout = Layout {
             file,
-            frame: Frame { inputs, states, initial, never: [0; WORDS] },
+            frame: Frame { inputs, states, initial, ..Frame::default() },
             outputs: size(1),
             evolutions: bodies.evolutions.len() / RECORD_BYTES,
             bodies,
@@ -77,14 +77,14 @@ impl<'a> Layout<'a> {
 
     /// Check 2.
     fn sizes_agree(&self) -> bool {
-        let Bodies { states, texts, never, .. } = &self.bodies;
+        let Bodies { states, texts, .. } = &self.bodies;
         let text_lengths = (0..self.records()).map(|record| self.text_length(record));
         self.frame.fits()
             && (1..=OUTPUTS).contains(&self.outputs)
             && states.len() == RECORD_BYTES * self.frame.states
             && self.evolutions <= EVOLUTIONS
             && text_lengths.sum::<usize>() == texts.len()
-            && never.iter().all(|text| text.len() <= TEXT)
+            && self.bodies.optional().all(|text| text.len() <= TEXT)
     }
 
     /// Number of records, states first.
@@ -107,7 +107,7 @@ impl<'a> Layout<'a> {
         usize::from(self.record(record)[2])
     }
 
-    /// Where each condition stands in the file, that of kind 5 last if there is one.
+    /// Where each condition stands in the file, those of kinds 5 and 6 last if there are any.
     fn text_places(&self) -> Vec<Range<usize>> {
         let mut end = self.bodies.texts.start;
         let place = |record| {
@@ -115,7 +115,7 @@ impl<'a> Layout<'a> {
             end += self.text_length(record);
             start..end
         };
-        (0..self.records()).map(place).chain(self.bodies.never.clone()).collect()
+        (0..self.records()).map(place).chain(self.bodies.optional().cloned()).collect()
     }
 
     /// The character at which a condition that 5 refuses does not read; zero with any other refusal.
@@ -128,7 +128,7 @@ impl<'a> Layout<'a> {
     }
 
     /// Checks 4 to 13; the buffers have exactly the needed lengths and are filled on the way. The
-    /// frame is the file's, with the settings never used.
+    /// frame is the file's, with both sets.
     fn fill(
         &self,
         table: &mut [u8],
@@ -141,7 +141,7 @@ impl<'a> Layout<'a> {
         refuse_at(5, texts.iter().position(|text| self.holds(text, 0).is_none()))?;
         self.check_evolutions(records)?;
         self.fill_table(&texts[..self.records()], records, table)?;
-        let machine = Machine { frame: self.used_frame(), moves: table };
+        let machine = Machine { frame: self.whole_frame(), moves: table };
         machine.check_transients()?;
         refuse_at(11, (0..words.len()).find(|&state| words[..state].contains(&words[state])))?;
         refuse_at(12, first_unreached(&machine))?;
@@ -149,16 +149,22 @@ impl<'a> Layout<'a> {
         Ok(machine.frame)
     }
 
-    /// The frame with the settings at which kind 5 holds ruled out.
-    fn used_frame(&self) -> Frame {
-        let mut frame = self.frame;
-        if let Some(text) = &self.bodies.never {
-            for setting in 0..1 << frame.inputs {
-                let holds = self.holds(text, setting) == Some(true);
-                frame.never[setting / WORD_BITS] |= u64::from(holds) << (setting % WORD_BITS);
-            }
+    /// The frame with the settings never used, none without kind 5, and the allowed starts, setting 0
+    /// alone without kind 6.
+    fn whole_frame(&self) -> Frame {
+        let Bodies { never, starts, .. } = &self.bodies;
+        let set = |text: &Option<Range<usize>>| text.as_ref().map(|text| self.set(text));
+        Frame {
+            never: set(never).unwrap_or(NO_SETTING),
+            starts: set(starts).unwrap_or(POWER_UP),
+            ..self.frame
         }
-        frame
+    }
+
+    /// The settings at which a condition holds.
+    fn set(&self, text: &Range<usize>) -> Set {
+        let settings = 1 << self.frame.inputs;
+        set_of(|setting| setting < settings && self.holds(text, setting) == Some(true))
     }
 
     fn copy_records(&self, texts: &[Range<usize>], words: &mut [u16], records: &mut [Evolution]) {
