@@ -18,13 +18,17 @@ fn two(file: &[u8], at: usize) -> usize {
 fn named(file: &[u8], number: usize, place: usize) -> String {
     let sizes = two(file, 6);
     let states = || usize::from(file[sizes + 2]);
+    let records = || states() + two(file, 18) / 3;
     match number {
         1 | 2 | 13 => String::new(),
         8..=10 => {
             let settings = 1 << file[sizes];
             format!("state {} at setting {} (", place / settings, place % settings)
         }
-        5 if place == states() + two(file, 18) / 3 => "the condition of kind 5, ".to_string(),
+        5 if place >= records() => {
+            let entry = 25 + 5 * (place - records());
+            format!("the condition of kind {}, ", file[entry])
+        }
         4..=7 if place >= states() => {
             let evolution = place - states();
             let (source, target) =
@@ -46,7 +50,7 @@ fn explained(file: &[u8]) -> String {
     said.trim_end().to_string()
 }
 
-/// Settings by the inputs that are on, without kind 5 and with it.
+/// Settings by the inputs that are on, without kinds 5 and 6 and with them.
 #[test]
 fn words_of_a_couple() {
     for (inputs, rest, place) in [
@@ -57,9 +61,14 @@ fn words_of_a_couple() {
         let file = File::new(inputs, 1, &[(0, rest), (1, "1")], &[(0, 1, "0")]);
         let said = format!("9: no rule holds for {place}");
         assert_eq!(explained(&file.bytes()), said);
+        assert_eq!(explained(&file.clone().starts("1").bytes()), said);
         assert_eq!(explained(&file.never("a+0").bytes()), said);
     }
 }
+
+/// What the script calls the conditions of kinds 5 and 6.
+const NEVER: &str = "the condition of kind 5, settings never used,";
+const STARTS: &str = "the condition of kind 6, allowed starts,";
 
 /// The bytes of a condition that is shown with \ and two digits for a byte that is not plain.
 fn bytes_of(shown: &str) -> Vec<u8> {
@@ -72,20 +81,24 @@ fn bytes_of(shown: &str) -> Vec<u8> {
     bytes
 }
 
-/// A condition as it is shown, with a caret before the character at which it does not read, in a
-/// state, an evolution and kind 5.
+/// A condition as it is shown, with a caret before the character at which it does not read, in each
+/// sort of record.
 fn assert_unread(inputs: u8, marked: &str, wrong: &str) {
     let (before, after) = marked.split_once('^').expect("a caret");
     let (shown, blanks) = (format!("{before}{after}"), " ".repeat(before.len()));
     let character = before.len() + 1;
     let bare = File::new(inputs, 1, &[(0, "!a"), (1, "1")], &[(0, 1, "a")]);
     let with = bare.clone().never("a+0");
+    let (alone, both) = (bare.clone().starts("1"), with.clone().starts("1"));
     for (file, record, name) in [
         (&bare, 0, "the rest condition of state 0"),
         (&with, 0, "the rest condition of state 0"),
         (&bare, 2, "evolution 0, from state 0 to 1,"),
         (&with, 2, "evolution 0, from state 0 to 1,"),
-        (&with, 3, "the condition of kind 5, settings never used,"),
+        (&with, 3, NEVER),
+        (&both, 3, NEVER),
+        (&alone, 3, STARTS),
+        (&both, 4, STARTS),
     ] {
         let said = explained(&file.clone().bytes_with(record, &bytes_of(&shown)));
         let first = format!("5: {name} does not read at character {character}");
@@ -129,22 +142,43 @@ fn words_of_a_character() {
     }
 }
 
-/// Sizes and starts with kind 5: its length where that is over 255, and the settings that are left.
+/// Sizes, with the length of kinds 5 and 6 where that is over 255.
 #[test]
-fn words_of_kind_5() {
+fn words_of_long_conditions() {
     let sizes = |inputs: u8| {
         format!(
             "2: a size is outside its range, or the sizes do not agree with the bodies: \
              inputs {inputs}, outputs 1, states 2, initial state 0"
         )
     };
-    let never = "the condition of kind 5, settings never used,";
-    let lamp = |inputs: u8, text: &str| File { inputs, ..examples::lamp() }.never(text);
-    assert_eq!(explained(&lamp(9, &"a".repeat(255)).bytes()), sizes(9));
-    let long = format!("{}; {never} has 300 bytes, over 255", sizes(1));
-    assert_eq!(explained(&lamp(1, &"a".repeat(300)).bytes()), long);
-    let no_start = "13: there is no start: the initial state 0 rests at no setting that is left";
-    assert_eq!(explained(&lamp(1, "!a").bytes()), no_start);
+    let lamp = |inputs: u8| File { inputs, ..examples::lamp() };
+    let [right, long] = [255, 300].map(|bytes| "a".repeat(bytes));
+    let over = |name: &str| format!("; {name} has 300 bytes, over 255");
+    let said = |file: File| explained(&file.bytes());
+    assert_eq!(said(lamp(9).never(&right).starts(&right)), sizes(9));
+    assert_eq!(said(lamp(1).never(&long)), sizes(1) + &over(NEVER));
+    assert_eq!(said(lamp(1).starts(&long)), sizes(1) + &over(STARTS));
+    assert_eq!(said(lamp(1).never(&right).starts(&long)), sizes(1) + &over(STARTS));
+    assert_eq!(said(lamp(1).never(&long).starts(&long)), sizes(1) + &over(NEVER) + &over(STARTS));
+}
+
+/// The starts that were looked at: setting 0 or those of kind 6, without those of kind 5.
+#[test]
+fn words_of_starts() {
+    let looked =
+        "13: there is no start: the initial state 0 rests at none of the starts looked at: ";
+    let alone = "setting 0 alone (no kind 6: power-up, all contacts open)";
+    let without = |text: &str| format!(", less the settings at which kind 5 holds (\"{text}\")");
+    let with = |text: &str| format!("the settings at which kind 6 holds (\"{text}\")");
+    let gate = || File { starts: None, ..examples::gate() };
+    for (file, starts) in [
+        (gate(), alone.to_string()),
+        (gate().never("a.b"), alone.to_string() + &without("a.b")),
+        (gate().starts("!(a+b+c+d)"), with("!(a+b+c+d)")),
+        (gate().never("1").starts("d"), with("d") + &without("1")),
+    ] {
+        assert_eq!(explained(&file.bytes()), format!("{looked}{starts}"));
+    }
 }
 
 /// Whatever is wrong with a file: its refusal, and a line of plain characters that names the place; for
