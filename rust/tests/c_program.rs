@@ -10,6 +10,7 @@ plan 1 0 0 2 0 0 1 3 0 0 1 0
 run 0 1 0
 readings 0 1 1 0 0
 never 1 0 0
+starts 3 0 0 1 0
 log 34 33 32
 ";
 

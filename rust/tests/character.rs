@@ -1,5 +1,5 @@
 //! Which character of a condition does not read: one text after the other as the condition of a
-//! state, of an evolution and of kind 5, read by the library.
+//! state, of an evolution and of kinds 5 and 6, read by the library.
 
 use mundrefol::examples::{self, lamp};
 use mundrefol::file::File;
@@ -12,11 +12,14 @@ fn read(file: &[u8], couples: usize) -> Contents {
     mundrefol::read(file, &mut vec![0; couples], &mut [0; STATES], &mut records)
 }
 
-/// The lamp with a number of inputs, kind 5, and a text as the condition of each sort of record.
+/// The lamp with a number of inputs, kinds 5 and 6 or 6 alone, and a text as the condition of each sort
+/// of record.
 #[track_caller]
 fn assert_character(inputs: u8, text: &[u8], character: usize) {
-    for record in [0, 2, 4] {
-        let file = File { inputs, ..lamp() }.never("0").bytes_with(record, text);
+    let alone = File { inputs, ..lamp() }.starts("1");
+    let both = alone.clone().never("0");
+    for (file, record) in [(&both, 0), (&both, 2), (&both, 4), (&both, 5), (&alone, 4)] {
+        let file = file.clone().bytes_with(record, text);
         let right =
             Contents { answer: Answer::refused(5, record), character, ..Contents::default() };
         assert_eq!(read(&file, COUPLES), right, "{}", String::from_utf8_lossy(text));

@@ -1,7 +1,8 @@
 //! The example rows of document 01, and the published tables they come from, on both implementations.
+//! The gate and table IV have kind 6 `1`, which gives document 01's starts.
 
 use mundrefol::file::File;
-use mundrefol::plain::{COUPLES, EVOLUTIONS, STATES, UNMARKED};
+use mundrefol::plain::{COUPLES, EVOLUTIONS, POWER_UP, STATES, UNMARKED};
 use mundrefol::{examples, plain, Answer, Contents, Evolution, Frame};
 
 /// What reading a file gives.
@@ -81,7 +82,7 @@ fn lamp_file() {
         assert_eq!(bytes[6 + 5 * entry..8 + 5 * entry], *offset);
     }
     let Read { contents, table, words, records } = read(&bytes);
-    let frame = Frame { inputs: 1, states: 2, ..Frame::default() };
+    let frame = Frame { inputs: 1, states: 2, starts: POWER_UP, ..Frame::default() };
     let right =
         Contents { answer: Answer::done(0), character: 0, outputs: 1, evolutions: 2, frame };
     assert_eq!(contents, right);
@@ -186,7 +187,7 @@ fn precedence() {
             &[(0, text), (1, &format!("!({text})"))],
             &[(0, 1, &format!("!({text})")), (1, 0, text)],
         );
-        machine(&file).1[setting] == 0
+        machine(&file.starts("1")).1[setting] == 0
     };
     assert!(held(3, "a+b.c", 1));
     assert!(!held(2, "!a.b", 0));

@@ -1,7 +1,7 @@
 /*
  * The lamp through the entry points, as C and as C++: layouts, reading, evolutions, marks, plan, run,
- * the plan shortened, readings, log; and the lamp with a setting that is never used, and with
- * conditions that do not read.
+ * the plan shortened, readings, log; and the lamp with a setting that is never used, with other allowed
+ * starts, and with conditions that do not read.
  */
 
 #include <assert.h>
@@ -14,10 +14,11 @@
 #define WORD sizeof(size_t)
 static_assert(sizeof(mundrefol_answer) == 2 * WORD, "answer");
 static_assert(offsetof(mundrefol_answer, place) == WORD, "answer.place");
-static_assert(sizeof(mundrefol_frame) == 3 * WORD + 32, "frame");
+static_assert(sizeof(mundrefol_frame) == 3 * WORD + 64, "frame");
 static_assert(offsetof(mundrefol_frame, states) == WORD, "frame.states");
 static_assert(offsetof(mundrefol_frame, initial) == 2 * WORD, "frame.initial");
 static_assert(offsetof(mundrefol_frame, never) == 3 * WORD, "frame.never");
+static_assert(offsetof(mundrefol_frame, starts) == 3 * WORD + 32, "frame.starts");
 static_assert(sizeof(mundrefol_contents) == 5 * WORD + sizeof(mundrefol_frame), "contents");
 static_assert(offsetof(mundrefol_contents, place) == WORD, "contents.place");
 static_assert(offsetof(mundrefol_contents, character) == 2 * WORD, "contents.character");
@@ -66,9 +67,17 @@ static const uint8_t never_on[53] = {
     'a',
 };
 
-static int rules_out(mundrefol_frame frame, uint64_t first)
+/* Where the kind and the condition of the fifth body stand in that file. */
+enum { KIND = 25, CONDITION = 52 };
+
+static int is_set(const uint64_t set[4], uint64_t first)
 {
-    return frame.never[0] == first && frame.never[1] == 0 && frame.never[2] == 0 && frame.never[3] == 0;
+    return set[0] == first && set[1] == 0 && set[2] == 0 && set[3] == 0;
+}
+
+static int has_sets(mundrefol_frame frame, uint64_t never, uint64_t starts)
+{
+    return is_set(frame.never, never) && is_set(frame.starts, starts);
 }
 
 static void show(const char *what, const uint8_t *bytes, size_t count)
@@ -85,7 +94,7 @@ static mundrefol_frame check_read(uint8_t table[5], uint16_t words[3], mundrefol
     mundrefol_frame frame = contents.frame;
     CHECK(contents.number == 0 && contents.place == 0 && contents.character == 0);
     CHECK(contents.outputs == 1 && contents.evolutions == 2);
-    CHECK(frame.inputs == 1 && frame.states == 2 && frame.initial == 0 && rules_out(frame, 0));
+    CHECK(frame.inputs == 1 && frame.states == 2 && frame.initial == 0 && has_sets(frame, 0, 1));
     CHECK(memcmp(table, "\0\1\0\1\x63", 5) == 0);
     CHECK(words[0] == 0 && words[1] == 1 && words[2] == 99);
     CHECK(records[0].source == 0 && records[0].target == 1 && records[0].at == 44 && records[0].length == 1);
@@ -96,22 +105,33 @@ static mundrefol_frame check_read(uint8_t table[5], uint16_t words[3], mundrefol
     CHECK(contents.number == 1 && contents.place == 0 && contents.character == 0);
     CHECK(contents.outputs == 0 && contents.evolutions == 0);
     CHECK(contents.frame.inputs == 0 && contents.frame.states == 0 && contents.frame.initial == 0);
+    CHECK(has_sets(contents.frame, 0, 0));
     contents = mundrefol_read(lamp, sizeof lamp, table, 3, words, 3, records, 3);
     CHECK(contents.number == 3 && contents.place == 4 && contents.character == 0);
     return frame;
 }
 
-/* Reads the lamp, with kind 5, with another character at a place of the file: the condition of a record does not read. */
-static void check_unread(size_t at, uint8_t with, size_t record, size_t character)
+/* Reads the lamp, its fifth body of this kind, with another character at a place of the file. */
+static mundrefol_contents read_with(uint8_t kind, size_t at, uint8_t with)
 {
     uint8_t file[sizeof never_on], table[4];
     uint16_t words[2];
     mundrefol_evolution records[2];
     memcpy(file, never_on, sizeof file);
+    file[KIND] = kind;
     file[at] = with;
-    mundrefol_contents contents = mundrefol_read(file, sizeof file, table, 4, words, 2, records, 2);
-    CHECK(contents.number == 5 && contents.place == record && contents.character == character);
-    CHECK(contents.outputs == 0 && contents.evolutions == 0 && contents.frame.states == 0);
+    return mundrefol_read(file, sizeof file, table, 4, words, 2, records, 2);
+}
+
+/* Reads the lamp, with kind 5 or 6, with another character at a place of the file: the condition of a record does not read. */
+static void check_unread(size_t at, uint8_t with, size_t record, size_t character)
+{
+    for (uint8_t kind = 5; kind <= 6; kind++) {
+        mundrefol_contents contents = read_with(kind, at, with);
+        CHECK(contents.number == 5 && contents.place == record && contents.character == character);
+        CHECK(contents.outputs == 0 && contents.evolutions == 0 && contents.frame.states == 0);
+        CHECK(has_sets(contents.frame, 0, 0));
+    }
 }
 
 static void check_evolutions(const mundrefol_evolution *records)
@@ -188,7 +208,7 @@ static void check_never(uint8_t *table, uint16_t *words, mundrefol_evolution *re
     mundrefol_contents contents = mundrefol_read(never_on, sizeof never_on, table, 4, words, 2, records, 2);
     mundrefol_frame frame = contents.frame;
     CHECK(contents.number == 0 && contents.place == 0 && contents.outputs == 1 && contents.evolutions == 2);
-    CHECK(frame.inputs == 1 && frame.states == 2 && frame.initial == 0 && rules_out(frame, 2));
+    CHECK(frame.inputs == 1 && frame.states == 2 && frame.initial == 0 && has_sets(frame, 2, 1));
     CHECK(memcmp(table, "\0\1\0\1", 4) == 0 && words[1] == 1 && records[1].at == 50);
     for (int beyond = 0; beyond < 2; beyond++) {
         mundrefol_answer answer = mundrefol_mark(frame, table, 4, ranks, 4);
@@ -210,6 +230,30 @@ static void check_never(uint8_t *table, uint16_t *words, mundrefol_evolution *re
     CHECK(mundrefol_mark(frame, table, 4, ranks, 4).number == 13);
     CHECK(mundrefol_plan(frame, table, 4, ranks, 4, plan, 4).number == 13);
     CHECK(mundrefol_expected(frame, table, 4, words, 2, run, 2, readings, 3).number == 17);
+}
+
+static void check_starts(mundrefol_frame frame, const uint8_t *table, const uint16_t *words)
+{
+    const uint8_t run[1] = {0};
+    uint8_t plan[12] = {0};
+    uint16_t ranks[4], readings[1];
+    mundrefol_contents contents = read_with(6, CONDITION, '1');
+    CHECK(contents.number == 0 && has_sets(contents.frame, 0, 3));
+    contents = read_with(6, CONDITION, 'a');
+    CHECK(contents.number == 13 && contents.place == 0 && has_sets(contents.frame, 0, 0));
+    CHECK(read_with(7, CONDITION, '1').number == 1);
+    for (uint64_t starts = 0; starts < 8; starts++) {
+        size_t allowed = starts % 2;
+        frame.starts[0] = starts;
+        frame.starts[3] = UINT64_MAX;
+        CHECK(mundrefol_mark(frame, table, 4, ranks, 4).number == (allowed ? 0 : 13));
+        CHECK(mundrefol_plan(frame, table, 4, ranks, 4, plan, 12).number == (allowed ? 0 : 13));
+        mundrefol_answer answer = mundrefol_expected(frame, table, 4, words, 2, run, 1, readings, 1);
+        CHECK(answer.number == (allowed ? 0 : 17) && answer.place == allowed);
+        answer = mundrefol_shorten(frame, table, 4, plan, 12);
+        CHECK(answer.number == (allowed ? 0 : 19) && answer.place == (allowed ? 5 : 0));
+    }
+    show("starts", plan, 5);
 }
 
 static void check_log(void)
@@ -240,11 +284,12 @@ int main(void)
     check_unread(46, 'a', 0, 2);
     check_unread(47, '!', 0, 3);
     check_unread(49, 'b', 2, 1);
-    check_unread(52, ' ', 4, 1);
+    check_unread(CONDITION, ' ', 4, 1);
     check_runs(frame, table);
     check_shorten(frame, table);
     check_readings(frame, table, words);
     check_never(table, words, records);
+    check_starts(frame, table, words);
     check_log();
     return 0;
 }

@@ -2,65 +2,25 @@
 //! changes nothing.
 
 mod cases;
+mod made;
 
 use cases::try_cases;
+use made::{made, marked, one_state, Made, SETS};
 use mundrefol::examples::{cutter, cutter_alarm, gate, lamp};
 use mundrefol::file::File;
-use mundrefol::generate::{any_table, runs_of, set_of, settled_file, Table};
-use mundrefol::plain::{COUPLES, EVOLUTIONS, STATES, UNMARKED, WORDS};
-use mundrefol::{Answer, Contents, Evolution, Frame};
-
-/// What the library makes of a file.
-#[derive(PartialEq, Debug)]
-struct Made {
-    contents: Contents,
-    table: Vec<u8>,
-    words: Vec<u16>,
-    answers: [Answer; 2],
-    ranks: Vec<u16>,
-    plan: Vec<u8>,
-}
-
-/// Reads a file, marks its couples and writes its plan.
-fn made(file: &File) -> Made {
-    let (mut table, mut words) = (vec![77; COUPLES], vec![7_777; STATES]);
-    let mut records = vec![Evolution::default(); EVOLUTIONS];
-    let contents = mundrefol::read(&file.bytes(), &mut table, &mut words, &mut records);
-    let (answers, ranks, plan) = jobs(contents.frame, &table);
-    Made { contents, table, words, answers, ranks, plan }
-}
-
-/// The answers of marking and plan, the ranks, and the plan with one byte beyond it.
-fn jobs(frame: Frame, table: &[u8]) -> ([Answer; 2], Vec<u16>, Vec<u8>) {
-    let (mut ranks, mut again) = (vec![7; COUPLES], vec![7; COUPLES]);
-    let marked = mundrefol::mark(frame, table, &mut ranks);
-    let needed = mundrefol::plan(frame, table, &mut again, &mut []).place;
-    let mut plan = vec![7; needed + 1];
-    let planned = mundrefol::plan(frame, table, &mut again, &mut plan);
-    assert_eq!(ranks, again);
-    ([marked, planned], ranks, plan)
-}
-
-fn marked(file: &File) -> Vec<usize> {
-    let Made { contents, ranks, .. } = made(file);
-    assert_eq!(contents.answer, Answer::done(0));
-    (0..contents.frame.couples()).filter(|&couple| ranks[couple] != UNMARKED).collect()
-}
+use mundrefol::generate::settled_file;
+use mundrefol::plain::{NO_SETTING, UNMARKED};
+use mundrefol::{Answer, Frame};
 
 /// The bits below 2^inputs are those of the settings at which the condition holds; no other is set.
 #[test]
 fn the_set_of_a_condition() {
-    let one_state = |inputs| File::new(inputs, 1, &[(0, "1")], &[]);
-    let never = |inputs: u8, text: &str| made(&one_state(inputs).never(text)).contents.frame.never;
-    assert_eq!(made(&one_state(8)).contents.frame.never, [0; WORDS]);
-    assert_eq!(never(1, "a"), [2, 0, 0, 0]);
-    assert_eq!(never(3, "b.c"), [0xc0, 0, 0, 0]);
-    assert_eq!(never(3, "!a"), [0x55, 0, 0, 0]);
-    assert_eq!(never(6, "f"), [!0 << 32, 0, 0, 0]);
-    assert_eq!(never(7, "!g"), [!0, 0, 0, 0]);
-    assert_eq!(never(8, "h"), [0, 0, !0, !0]);
-    assert_eq!(never(8, "g.!h+a"), [0xaaaa_aaaa_aaaa_aaaa, !0, !0 / 3 * 2, !0 / 3 * 2]);
-    for file in [one_state(2).never("1"), one_state(2).never("c"), lamp().never("!a")] {
+    let all_starts = |inputs| one_state(inputs).starts("1");
+    assert_eq!(made(&all_starts(8)).contents.frame.never, NO_SETTING);
+    for (inputs, text, set) in SETS {
+        assert_eq!(made(&all_starts(inputs).never(text)).contents.frame.never, set, "{text}");
+    }
+    for file in [all_starts(2).never("1"), all_starts(2).never("c"), lamp().never("!a")] {
         assert_eq!(made(&file).contents.frame, Frame::default());
     }
 }
@@ -77,7 +37,11 @@ fn lamp_without_a() {
         let mut readings = [9; 10];
         mundrefol::expected(frame, &table, &words, run, &mut readings)
     };
-    let ruled_out = |never| Frame { never: [never, 0, 0, 0], ..contents.frame };
+    let ruled_out = |first| {
+        let mut frame = contents.frame;
+        frame.never[0] = first;
+        frame
+    };
     assert_eq!(expected(contents.frame, &[0]), Answer::done(1));
     assert_eq!(expected(contents.frame, &[0, 1, 0]), Answer::refused(17, 1));
     assert_eq!(expected(contents.frame, &[0, 0, 1]), Answer::refused(17, 1));
@@ -120,27 +84,5 @@ fn a_condition_that_never_holds() {
             assert_eq!((with.table, with.words), (bare.table, bare.words));
         }
         read
-    });
-}
-
-/// Bits at and beyond 2^inputs change nothing, and no run uses a setting that is ruled out.
-#[test]
-fn bits_beyond_the_settings() {
-    try_cases("bits beyond", 1_500, &[0, 4, 10, 13], |random| {
-        let Table { frame, moves } = any_table(random);
-        let settings = 1 << frame.inputs;
-        let below = set_of(|setting| setting < settings && frame.rules_out(setting));
-        let filled = set_of(|setting| setting >= settings || frame.rules_out(setting));
-        let right = jobs(Frame { never: below, ..frame }, &moves);
-        assert_eq!(jobs(frame, &moves), right);
-        assert_eq!(jobs(Frame { never: filled, ..frame }, &moves), right);
-        let ([marked, planned], ranks, plan) = right;
-        if marked.number == 0 {
-            let used = |&couple: &usize| !frame.rules_out(couple % settings);
-            assert!((0..frame.couples()).filter(|&it| ranks[it] != UNMARKED).all(|it| used(&it)));
-            let runs = runs_of(&plan[..planned.place]);
-            assert!(runs.concat().iter().all(|&setting| used(&usize::from(setting))));
-        }
-        marked.number
     });
 }

@@ -4,7 +4,7 @@
 use mundrefol::examples::{gate, lamp};
 use mundrefol::file::File;
 use mundrefol::generate::{plan_of, runs_of, stored, Table};
-use mundrefol::plain::{COUPLES, EVOLUTIONS, STATES};
+use mundrefol::plain::{COUPLES, EVERY_SETTING, EVOLUTIONS, NO_SETTING, POWER_UP, STATES};
 use mundrefol::{plain, Answer, Evolution, Frame};
 
 /// The lamp's plan, as document 01 has it.
@@ -22,7 +22,7 @@ fn table(file: &File) -> Table {
 
 /// A table of one state, which rests everywhere: each setting is a start, and visits its own couple.
 fn one_state(inputs: usize) -> Table {
-    let frame = Frame { inputs, states: 1, ..Frame::default() };
+    let frame = Frame { inputs, states: 1, starts: EVERY_SETTING, ..Frame::default() };
     Table { frame, moves: vec![0; 1 << inputs] }
 }
 
@@ -168,9 +168,20 @@ fn a_setting_that_is_never_used() {
     becomes(&never(3), &[], &[]);
 }
 
+/// One state, which rests everywhere, but a run may start only at some settings.
+#[test]
+fn a_start_that_is_not_allowed() {
+    let every = one_state(2);
+    let with = |starts| Table { frame: Frame { starts, ..every.frame }, ..every.clone() };
+    becomes(&with(POWER_UP), &[1, 0, 0, 2, 0, 0, 1], &[2, 0, 0, 1]);
+    refused(&with(POWER_UP), &[1, 0, 0, 2, 0, 1, 0], 19, 3);
+    refused(&with(NO_SETTING), &[1, 0, 0], 19, 0);
+    becomes(&with(NO_SETTING), &[], &[]);
+}
+
 /// Two states, the initial one resting nowhere.
 fn without_start() -> Table {
-    let frame = Frame { inputs: 1, states: 2, ..Frame::default() };
+    let frame = Frame { inputs: 1, states: 2, starts: EVERY_SETTING, ..Frame::default() };
     Table { frame, moves: vec![1; 4] }
 }
 

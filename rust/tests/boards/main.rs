@@ -2,7 +2,7 @@
 //! and a board passes all readings of the plan, or of the plan shortened, exactly if its moves are
 //! right at every marked couple.
 //! Runs, visits and boards are followed here step by step, apart from both implementations; any
-//! settings may be ruled out.
+//! settings may be ruled out, and any may be allowed starts.
 
 #[path = "../cases/mod.rs"]
 mod cases;
@@ -13,7 +13,7 @@ mod steps;
 use cases::try_cases;
 use library::Tested;
 use mundrefol::generate::{all_lists, any_table, longest_table, Random, Table};
-use mundrefol::plain::{INPUTS, UNMARKED};
+use mundrefol::plain::{EVERY_SETTING, INPUTS, UNMARKED};
 use mundrefol::{Answer, Frame};
 use std::collections::BTreeSet;
 use steps::{differ_in_one, has_start, is_run, is_sound, is_used, ranks_by_rounds, starts, visits};
@@ -23,7 +23,7 @@ use steps::{differ_in_one, has_start, is_run, is_sound, is_used, ranks_by_rounds
 #[test]
 fn all_changes() {
     for inputs in 1..=INPUTS {
-        let frame = Frame { inputs, states: 1, ..Frame::default() };
+        let frame = Frame { inputs, states: 1, starts: EVERY_SETTING, ..Frame::default() };
         let moves = vec![0; 1 << inputs];
         for run in all_lists(1 << inputs, 2) {
             let one = differ_in_one(run[0].into(), run[1].into());
@@ -42,20 +42,22 @@ fn sound_tables(inputs: usize, states: usize) -> impl Iterator<Item = Table> {
     tables.filter(is_sound)
 }
 
-/// A table with one of the sets of its settings ruled out.
-fn with_never(table: &Table, set: u64) -> Table {
+/// A table with a set of its settings ruled out, and a set of them as allowed starts.
+fn with_sets(table: &Table, never: u64, starts: u64) -> Table {
     let mut table = table.clone();
-    table.frame.never[0] = set;
+    table.frame.never[0] = never;
+    table.frame.starts[0] = starts;
     table
 }
 
-/// Every sound table with a start of these sizes, from every initial state, with every set of
-/// settings ruled out.
-fn all_tables(inputs: usize, states: usize) -> impl Iterator<Item = Table> {
+/// Every sound table with a start of these sizes, from every initial state, with every `step`th pair of
+/// sets of its settings.
+fn all_tables(inputs: usize, states: usize, step: usize) -> impl Iterator<Item = Table> {
     let sets = 1 << (1 << inputs);
-    let tables = sound_tables(inputs, states)
-        .flat_map(move |table| (0..sets).map(move |set| with_never(&table, set)));
-    tables.filter(has_start)
+    let pairs = move || (0..sets * sets).step_by(step).map(move |pair| (pair / sets, pair % sets));
+    let with_pairs =
+        move |table: Table| pairs().map(move |(never, starts)| with_sets(&table, never, starts));
+    sound_tables(inputs, states).flat_map(with_pairs).filter(has_start)
 }
 
 /// Tries every board on the given tables of these sizes.
@@ -74,27 +76,29 @@ fn try_all_boards(tables: impl IntoIterator<Item = Table>) {
 
 #[test]
 fn all_boards_of_one_input_two_states() {
-    try_all_boards(all_tables(1, 2));
+    try_all_boards(all_tables(1, 2, 1));
 }
 
 #[test]
 fn all_boards_of_two_inputs_two_states() {
-    try_all_boards(all_tables(2, 2));
+    try_all_boards(all_tables(2, 2, 5));
 }
 
 #[test]
 fn all_boards_of_one_input_three_states() {
-    try_all_boards(all_tables(1, 3));
+    try_all_boards(all_tables(1, 3, 1));
 }
 
-/// Every `step`th table of these sizes, with every setting used and with some ruled out.
+/// Every `step`th table of these sizes, with every setting used and every start allowed, with some
+/// ruled out, and with some allowed.
 fn some_tables(inputs: usize, states: usize, step: usize) -> impl Iterator<Item = Table> {
     let tables = sound_tables(inputs, states).skip(step / 2).step_by(step).zip(1..);
-    let with_sets = |(table, turn): (Table, u64)| {
+    let with_some = |(table, turn): (Table, u64)| {
         let some = turn * 37 % (1 << (1 << table.frame.inputs));
-        [with_never(&table, 0), with_never(&table, some)]
+        [(0, !0), (some, !0), (0, some), (0, 1)]
+            .map(|(never, starts)| with_sets(&table, never, starts))
     };
-    tables.flat_map(with_sets).filter(has_start)
+    tables.flat_map(with_some).filter(has_start)
 }
 
 #[test]

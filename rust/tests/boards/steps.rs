@@ -18,18 +18,24 @@ pub fn is_sound(table: &Table) -> bool {
     })
 }
 
-/// Whether a setting may be used: the bits of `never` are counted from the lowest of the first word on.
-pub fn is_used(table: &Table, setting: usize) -> bool {
-    let mut bits =
-        table.frame.never.iter().flat_map(|word| (0..64).map(move |bit| word & 1 << bit));
-    bits.nth(setting) == Some(0)
+/// The bit of a setting in a set: they are counted from the lowest of the first word on.
+fn bit(set: &[u64], setting: usize) -> bool {
+    let mut bits = set.iter().flat_map(|word| (0..64).map(move |bit| word & 1 << bit));
+    bits.nth(setting).is_some_and(|bit| bit != 0)
 }
 
+/// Whether a setting may be used.
+pub fn is_used(table: &Table, setting: usize) -> bool {
+    !bit(&table.frame.never, setting)
+}
+
+/// The settings at which a run may start: where the initial state rests, of those used and allowed.
 pub fn starts(table: &Table) -> Vec<usize> {
     let rests =
         |&setting: &usize| follow(table, table.frame.initial, setting) == table.frame.initial;
     let used = |&setting: &usize| is_used(table, setting);
-    (0..1 << table.frame.inputs).filter(rests).filter(used).collect()
+    let allowed = |&setting: &usize| bit(&table.frame.starts, setting);
+    (0..1 << table.frame.inputs).filter(rests).filter(used).filter(allowed).collect()
 }
 
 pub fn has_start(table: &Table) -> bool {

@@ -4,9 +4,9 @@
 #[path = "../cases/mod.rs"]
 mod cases;
 mod evolutions;
-mod kind_5;
 mod lent;
 mod log;
+mod optional;
 mod read;
 mod shorten;
 mod tables;

@@ -2,8 +2,8 @@
 
 use super::assert_same;
 use super::cases::{self, try_cases};
-use super::kind_5;
 use super::lent::{junk_bytes, junk_records, junk_words, length};
+use super::optional;
 use mundrefol::file::File;
 use mundrefol::generate::{damaged, largest_file, padded};
 use mundrefol::generate::{random_bytes, random_file, settled_file, Random};
@@ -12,10 +12,10 @@ use mundrefol::{plain, Contents};
 
 const READ: usize = 24_000;
 
-/// Every number is met by files without kind 5 and with it, 2, 5 and 13 also on account of it.
+/// Every number is met by files with and without kinds 5 and 6, 2, 5 and 13 also on account of them.
 #[test]
 fn read() {
-    try_cases("read", READ, &kind_5::answers(), |random| {
+    try_cases("read", READ, &optional::answers(), |random| {
         let file = match random.below(12) {
             0 => random_bytes(random),
             1 => random_file(random).bytes(),
@@ -56,6 +56,9 @@ fn read_at_the_limits() {
         (largest_file(FILE - 5 - TEXT).never(&padded("h".to_string(), TEXT)).bytes(), 0),
         (largest_file(FILE - 5 - TEXT).never(&padded("!h".to_string(), TEXT + 1)).bytes(), 1),
         (largest_file(FILE - 6 - TEXT).never(&padded("!h".to_string(), TEXT + 1)).bytes(), 2),
+        (largest_file(FILE + 1 - TEXT).starts(&padded("1".to_string(), TEXT)).bytes(), 0),
+        (largest_file(FILE + 1 - TEXT).starts(&padded("!h".to_string(), TEXT + 1)).bytes(), 1),
+        (largest_file(FILE - TEXT).starts(&padded("!h".to_string(), TEXT + 1)).bytes(), 2),
     ];
     for (file, number) in files {
         let mut random = Random::new(cases::seed());
@@ -84,7 +87,7 @@ fn read_both(random: &mut Random, file: &[u8]) -> (usize, &'static str) {
     let lengths = (length(random, couples), length(random, states), length(random, evolutions));
     let contents = read_into(random, file, lengths);
     let mut without = |file: &[u8]| read_into(random, file, lengths);
-    (contents.answer.number, kind_5::part(file, contents, &mut without))
+    (contents.answer.number, optional::part(file, contents, &mut without))
 }
 
 /// Reads a file by both into buffers of these lengths.

@@ -27,7 +27,8 @@ const TOO_LARGE: &str = "a setting too large";
 const NEVER_START: &str = "a start ruled out";
 const NEVER_LATER: &str = "a change to a setting ruled out";
 const NO_START: &str = "any start, where there is none";
-const NOT_A_START: &str = "another setting than a start";
+const NOT_ALLOWED: &str = "a start that is not allowed";
+const NOT_AT_REST: &str = "a start that is not at rest";
 const NO_CHANGE: &str = "no input changed";
 const CHANGES: &str = "several inputs changed";
 
@@ -38,7 +39,8 @@ fn answers() -> Vec<Met> {
     let done = [EMPTY, ALL_STAY, SOME_GO].map(|what| (0, what));
     let of_the_table = [2, 3, 4, 10].map(|number| (number, ""));
     let not_split = [ONE_BYTE, CUT].map(|what| (19, what));
-    let starts = [NO_SETTINGS, NEVER_START, NO_START, NOT_A_START].map(|what| (19, what));
+    let starts =
+        [NO_SETTINGS, NEVER_START, NO_START, NOT_ALLOWED, NOT_AT_REST].map(|what| (19, what));
     let changes = [TOO_LARGE, NEVER_LATER, NO_CHANGE, CHANGES].map(|what| (19, what));
     [&done[..], &of_the_table, &not_split, &starts, &changes].concat()
 }
@@ -105,7 +107,8 @@ fn cause(table: &Table, plan: &[u8], place: usize) -> &'static str {
         None if table.frame.rules_out(setting.into()) => NEVER_START,
         Some(_) if table.frame.rules_out(setting.into()) => NEVER_LATER,
         None if marking(table) == 13 => NO_START,
-        None => NOT_A_START,
+        None if !table.frame.allows_start(setting.into()) => NOT_ALLOWED,
+        None => NOT_AT_REST,
         Some(0) => NO_CHANGE,
         Some(_) => CHANGES,
     }

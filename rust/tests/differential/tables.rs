@@ -4,45 +4,55 @@ use super::assert_same;
 use super::cases::try_cases;
 use super::lent::{couples, junk_bytes, junk_words, length, lent_ranks, lent_run, lent_table};
 use mundrefol::generate::{longest_table, Table};
-use mundrefol::plain::{COUPLES, STATES, WORDS};
+use mundrefol::plain::{COUPLES, EVERY_SETTING, NO_SETTING, STATES};
 use mundrefol::{plain, Answer, Frame};
 
 const MARK: usize = 8_000;
-const RUN_TO: usize = 8_000;
+const RUN_TO: usize = 16_000;
 const PLAN: usize = 8_000;
 const EXPECTED: usize = 10_000;
 
-/// How an answer compares with that of a frame with no setting ruled out.
-const SAME: &str = "as with every setting used";
+/// How an answer compares with that of a frame with every setting used and every start allowed.
+const SAME: &str = "as with all settings and starts";
 const RULED_OUT: &str = "for what is ruled out";
 const RULED_OUT_LATER: &str = "for what is ruled out, in a change";
+const NOT_ALLOWED: &str = "for starts not allowed";
+const BOTH: &str = "for each start ruled out or not allowed";
 
-/// The number of an answer, and how it compares; the bytes that 16 asks for are not looked at.
-fn compared(
-    answer: Answer,
-    frame: Frame,
-    job: impl FnOnce(Frame) -> Answer,
-) -> (usize, &'static str) {
-    let bare = job(Frame { never: [0; WORDS], ..frame });
-    let same = answer == bare || answer.number == 16;
+/// The number of an answer, and how it compares.
+type Met = (usize, &'static str);
+
+/// An answer as it is met; the bytes that 16 asks for are not looked at.
+fn compared(answer: Answer, frame: Frame, mut job: impl FnMut(Frame) -> Answer) -> Met {
+    let allowed = Frame { starts: EVERY_SETTING, ..frame };
+    let used = Frame { never: NO_SETTING, ..frame };
+    let same = answer == job(Frame { starts: EVERY_SETTING, ..used }) || answer.number == 16;
     let later = answer.number == 17 && answer.place > 0;
-    let why = match (same, later) {
-        (true, _) => SAME,
-        (false, true) => RULED_OUT_LATER,
-        (false, false) => RULED_OUT,
+    let why = if same {
+        SAME
+    } else if later {
+        RULED_OUT_LATER
+    } else if answer == job(allowed) {
+        RULED_OUT
+    } else if answer.number == 13 && answer != job(used) {
+        BOTH
+    } else {
+        NOT_ALLOWED
     };
     (answer.number, why)
 }
 
-/// Answers that do not depend on what is ruled out, then those that do.
-fn answers(same: &[usize], ruled_out: &[usize]) -> Vec<(usize, &'static str)> {
+/// Answers that do not depend on the two sets, then those that do on each, and one more.
+fn answers(same: &[usize], of_the_sets: &[usize], more: Met) -> Vec<Met> {
     let same = same.iter().map(|&number| (number, SAME));
-    same.chain(ruled_out.iter().map(|&number| (number, RULED_OUT))).collect()
+    let of_the_sets = of_the_sets.iter();
+    let each = of_the_sets.flat_map(|&number| [(number, RULED_OUT), (number, NOT_ALLOWED)]);
+    same.chain(each).chain([more]).collect()
 }
 
 #[test]
 fn mark() {
-    try_cases("mark", MARK, &answers(&[0, 2, 3, 4, 10, 13], &[13]), |random| {
+    try_cases("mark", MARK, &answers(&[0, 2, 3, 4, 10, 13], &[13], (13, BOTH)), |random| {
         let lent = lent_table(random);
         let mut ranks = lent_ranks(random, &lent);
         let mut plain_ranks = ranks.clone();
@@ -56,14 +66,16 @@ fn mark() {
 
 #[test]
 fn run_to() {
-    let all = answers(&[0, 2, 3, 4, 10, 13, 14, 15, 16], &[0, 13, 15]);
+    let all = answers(&[0, 2, 3, 4, 10, 13, 14, 15, 16], &[0, 13, 15], (13, BOTH));
     try_cases("run_to", RUN_TO, &all, |random| {
         let lent = lent_table(random);
         let Table { frame, ref moves } = lent;
         let couples = couples(&lent);
+        let settings = couples / frame.states.clamp(1, STATES);
         let couple = match random.below(20) {
             0 => couples + random.below(3),
             1 => usize::MAX - random.below(2),
+            2..=9 => frame.initial.wrapping_mul(settings) | random.below(settings.max(1)),
             _ => random.below(couples.max(1)),
         };
         let mut ranks = lent_ranks(random, &lent);
@@ -83,7 +95,7 @@ fn run_to() {
 
 #[test]
 fn plan() {
-    let all = answers(&[0, 2, 3, 4, 10, 13, 16], &[0, 13]);
+    let all = answers(&[0, 2, 3, 4, 10, 13, 16], &[0, 13], (13, BOTH));
     try_cases("plan", PLAN, &all, |random| {
         let lent = lent_table(random);
         let Table { frame, ref moves } = lent;
@@ -120,8 +132,7 @@ fn longest_plan() {
 
 #[test]
 fn expected() {
-    let mut all = answers(&[0, 2, 3, 4, 10, 17], &[17]);
-    all.push((17, RULED_OUT_LATER));
+    let all = answers(&[0, 2, 3, 4, 10, 17], &[17], (17, RULED_OUT_LATER));
     try_cases("expected", EXPECTED, &all, |random| {
         let lent = lent_table(random);
         let Table { frame, ref moves } = lent;

@@ -9,14 +9,14 @@ use mundrefol::generate::{all_texts, settled_file, unreadable, Random};
 use mundrefol::plain::{PARENTHESES, TEXT};
 use mundrefol::{Answer, Contents};
 
-const UNREAD: usize = 20_000;
+const UNREAD: usize = 32_000;
 const LONG: usize = 6_000;
 
 /// How often each answer is met at least.
 const OFTEN: usize = 5;
 
-/// The record: a state, an evolution, kind 5.
-const RECORDS: [&str; 3] = ["state", "evolution", "kind 5"];
+/// The record: a state, an evolution, kind 5, kind 6 without kind 5 and after it.
+const RECORDS: [&str; 5] = ["state", "evolution", "kind 5", "kind 6", "kind 6 after kind 5"];
 
 /// What is wrong: the text stops too early.
 const EMPTY: &str = "empty";
@@ -95,7 +95,9 @@ fn file_with(random: &mut Random, kind: usize) -> (File, usize) {
     match kind {
         0 => (file, random.below(states)),
         1 => (file, states + random.below(evolutions)),
-        _ => (file.never("0"), states + evolutions),
+        2 => (file.never("0"), states + evolutions),
+        3 => (File { never: None, ..file }.starts("1"), states + evolutions),
+        _ => (file.never("0").starts("1"), states + evolutions + 1),
     }
 }
 
@@ -142,17 +144,17 @@ fn every_short_text() {
     }
 }
 
-/// Every byte in place of each of a condition's, and before each, in a state, an evolution, kind 5.
+/// Every byte in place of each of a condition's, and before each, in each sort of record.
 #[test]
 fn every_byte_at_every_place() {
     let random = &mut Random::new(cases::seed());
     let text = b"!a.(b+0.!(1))";
-    for record in [0, 2, 4] {
+    for record in [0, 2, 4, 5] {
         for at in 0..text.len() {
             for byte in 0..=u8::MAX {
                 for after in [at, at + 1] {
                     let text = [&text[..at], &[byte], &text[after..]].concat();
-                    let file = File { inputs: 2, ..lamp() }.never("a");
+                    let file = File { inputs: 2, ..lamp() }.never("a").starts("1");
                     let Contents { answer, character, .. } =
                         read_into(random, &file.bytes_with(record, &text), MOST);
                     if answer.number == 5 {
