@@ -1,7 +1,5 @@
 // Files read into buffers that were lent, mostly the lamp with bytes changed: number, place and character, the five sizes, then what
 // the table and the words hold, 7 before.
-ghost use mathlib.Core.Path.{_≡_};
-ghost use lib.ListN.{length};
 use crate::changes::before;
 use crate::changes::blanks;
 use crate::changes::change;
@@ -11,12 +9,11 @@ use crate::lines::end;
 use crate::lines::number;
 use crate::lines::values;
 use crate::lines::word;
+use crate::samples::both_lamp;
+use crate::samples::gate_file;
+use crate::samples::lamp_file;
+use crate::samples::ruled_lamp;
 use specification::Contents;
-
-// The bytes of the lamp's file, and of the lamp's with a kind 5.
-pub(crate) const LAMP: usize = 47;
-
-pub(crate) const RULED: usize = LAMP + 6;
 
 pub(crate) fn rows() {
     whole();
@@ -27,15 +24,20 @@ pub(crate) fn rows() {
     rules();
     order();
     never();
+    starts();
+    both();
 }
 
 // The lamp and the gate, and the shortest file that reads: one state, at rest at `1`.
 fn whole() {
-    lamp(b"lamp file", false, b"");
+    lamp(b"lamp file", 4, b"");
+    let mut table = [7u8; 49];
+    let mut words = [7u16; 4];
+    lent(b"gate file", &gate_file(), &mut table, &mut words);
     let mut table = [7u8; 49];
     let mut words = [7u16; 4];
     lent(
-        b"gate file",
+        b"gate file without kind 6",
         b"SEQ1\x04\x01\x19\x00\x04\x00\x02\x1d\x00\x09\x00\x03\x26\x00\x12\x00\x04\x38\x00\x53\x00\x04\x02\x03\x00\x00\x00\x0c\x01\x00\x08\x02\x00\x02\x00\x01\x08\x00\x02\x0b\x01\x00\x0c\x01\x02\x0b\x02\x00\x09\x02\x01\x0ac.(b+a)+d.!b!d.!b.!a!c!d.!b.!a!c.(b+!d.a)c.(b+a)+d.!b!c.(b+!d.a)c.(d+b+a)!d.c.!b.!a",
         &mut table,
         &mut words,
@@ -53,7 +55,7 @@ fn whole() {
 // Refusal 1.
 fn contents() {
     lamps(
-        false,
+        4,
         b"
         mark: 3'9
         count: 4=5
@@ -73,7 +75,7 @@ fn contents() {
 // Refusal 2, and the sizes beside those that it refuses.
 fn sizes() {
     lamps(
-        false,
+        4,
         b"
         no inputs: 25=0
         8 inputs, table of 5: 25=8
@@ -83,7 +85,7 @@ fn sizes() {
         17 outputs: 26=17
         1 state, kind 2 of 6 bytes: 27=1
         3 states, kind 2 of 6 bytes: 27=3
-        initial 1: 28=1
+        initial 1, no start without kind 6: 28=1
         initial 2: 28=2
         conditions of 7 bytes, kind 4 of 6: 31=3
         ",
@@ -101,7 +103,7 @@ fn room() {
 // Refusals 4 to 7.
 fn records() {
     lamps(
-        false,
+        4,
         b"
         output bit 1 of 1: 32=2
         output bit 8 of 1: 30=1
@@ -119,7 +121,7 @@ fn records() {
 // Refusals 8 to 13.
 fn rules() {
     lamps(
-        false,
+        4,
         b"
         rest !0 and a: 42'0
         rest !1 and a: 42'1
@@ -135,7 +137,7 @@ fn rules() {
 // Two faults in one file: each check runs over the whole of it before the next.
 fn order() {
     lamps(
-        false,
+        4,
         b"
         1 before 2: 3'9 25=9
         2 before 4: 28=2 32=2
@@ -162,7 +164,7 @@ fn order() {
 // The lamp with a kind 5, `a` where nothing else is said.
 fn never() {
     lamps(
-        true,
+        5,
         b"
         kind 5:
         kind 5 that holds nowhere: 52'0
@@ -171,7 +173,7 @@ fn never() {
         kind 5 that is empty: 23=7 26=53 28=0 45=3 50'a 51'+
         kinds 1 2 3 4 4: 25=4
         kinds 1 2 3 5 5: 20=5
-        kinds 1 2 3 4 6: 25=6
+        kinds 1 2 3 4 7: 25=7
         count 4 and a fifth entry: 4=4
         count 6: 4=6
         gap before kind 5: 26=53
@@ -183,32 +185,79 @@ fn never() {
     );
 }
 
-// The lamp, or the one with a kind 5, with bytes changed, a row to a line: its name, a colon, then the changes as `changes` reads them.
-fn lamps(ruled: bool, rows: &[u8]) {
+// The lamp with a kind 6 alone, `a` where nothing else is said; state 0 rests at setting 0 alone, state 1 at setting 1.
+fn starts() {
+    lamps(
+        5,
+        b"
+        kind 6 that holds everywhere: 25=6 52'1
+        kind 6 !a, state 1 at rest everywhere: 23=5 25=6 26=51 28=2 45=1 48'1 50'0 51'! 52'a
+        kind 6 that holds without rest: 25=6
+        kind 6 that holds nowhere: 25=6 52'0
+        kind 6 that does not read: 25=6 52'+
+        kind 6 that is empty: 23=7 25=6 26=53 28=0 45=3 50'a 51'+
+        kinds 1 2 3 5 6: 20=5 25=6
+        initial 1: 25=6 33=1 52'1
+        initial 1, kind 6 a: 25=6 33=1
+        ",
+    );
+}
+
+// The lamp with the kind 5 `a` and the kind 6 `!a` where nothing else is said.
+fn both() {
+    lamps(
+        6,
+        b"
+        kinds 5 and 6:
+        kind 5 that takes every allowed start: 28=2 31=59 33=1 57'! 58'a 59'1
+        kind 6 that does not read, behind kind 5: 59'+
+        kind 6 that is empty, behind kind 5: 28=3 31=60 33=0 58'.
+        kinds 5 and 6 that do not read: 57'+ 58'+
+        kinds 1 2 3 4 5 5: 30=5
+        kinds 1 2 3 4 5 7: 30=7
+        kinds 1 2 3 4 6 5: 25=6 30=5
+        kinds 1 2 3 4 6 6: 25=6
+        count 5 and a sixth entry: 4=5
+        count 7: 4=7
+        gap before kind 6: 31=59
+        kind 6 ends behind the file: 33=3
+        5 at kind 6 before 6: 46=0 59'+
+        12 before 13 by kind 6: 52'0 54'0 59'1
+        ",
+    );
+}
+
+// The lamp with so many entries, 4 to 6, and bytes changed, a row to a line: its name, a colon, then the changes as `changes` reads them.
+fn lamps(entries: usize, rows: &[u8]) {
     let mut at: usize = 0;
     while at < rows.len() {
         let stop = at + before(&rows[at..rows.len()], b'\n');
-        row(ruled, &rows[at..stop]);
+        row(entries, &rows[at..stop]);
         at = stop + 1;
     }
 }
 
 // A line with no colon is no row.
-fn row(ruled: bool, line: &[u8]) {
+fn row(entries: usize, line: &[u8]) {
     let colon = before(line, b':');
     if colon < line.len() {
         let start = blanks(&line[0..colon]);
-        lamp(&line[start..colon], ruled, &line[colon..line.len()]);
+        lamp(&line[start..colon], entries, &line[colon..line.len()]);
     }
 }
 
-fn lamp(what: &[u8], ruled: bool, changes: &[u8]) {
-    if ruled {
+fn lamp(what: &[u8], entries: usize, changes: &[u8]) {
+    if entries == 4 {
+        let mut file = lamp_file();
+        lamp_into(what, &mut file, changes, 5, 3);
+        return;
+    }
+    if entries == 5 {
         let mut file = ruled_lamp();
         lamp_into(what, &mut file, changes, 5, 3);
         return;
     }
-    let mut file = lamp_file();
+    let mut file = both_lamp();
     lamp_into(what, &mut file, changes, 5, 3);
 }
 
@@ -224,18 +273,6 @@ fn lamp_into(what: &[u8], file: &mut [u8], changes: &[u8], bytes: usize, count: 
         return;
     }
     lent(what, file, &mut table[0..bytes], &mut words[0..count]);
-}
-
-pub(crate) fn lamp_file() -> [u8; LAMP]
-    ensures { λ r. ⌜ 47 ≡ length r ⌝ }
-{
-    *b"SEQ1\x04\x01\x19\x00\x04\x00\x02\x1d\x00\x06\x00\x03\x23\x00\x06\x00\x04\x29\x00\x06\x00\x01\x01\x02\x00\x00\x00\x02\x01\x00\x01\x00\x01\x01\x01\x00\x02!aaa!a"
-}
-
-pub(crate) fn ruled_lamp() -> [u8; RULED]
-    ensures { λ r. ⌜ 53 ≡ length r ⌝ }
-{
-    *b"SEQ1\x05\x01\x1e\x00\x04\x00\x02\x22\x00\x06\x00\x03\x28\x00\x06\x00\x04\x2e\x00\x06\x00\x05\x34\x00\x01\x00\x01\x01\x02\x00\x00\x00\x02\x01\x00\x01\x00\x01\x01\x01\x00\x02!aaa!aa"
 }
 
 fn lent(what: &[u8], file: &[u8], table: &mut [u8], words: &mut [u16]) {

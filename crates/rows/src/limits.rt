@@ -2,9 +2,9 @@
 ghost use mathlib.Core.Path.{_≡_};
 ghost use lib.ListN.{length};
 use crate::changes::put;
-use crate::lamps::lamp_file;
 use crate::lamps::told;
 use crate::lines::end;
+use crate::samples::lamp_file;
 use machine::COUPLES;
 use machine::STATES;
 use specification::BYTES;
@@ -44,6 +44,25 @@ pub(crate) fn most() {
         b"33 states",
         b"SEQ1\x04\x01\x19\x00\x04\x00\x02\x1d\x00\x63\x00\x03\x80\x00\xa0\x0b\x04\x20\x0c\x00\x00\x01\x01\x21\x00",
         3104,
+    );
+}
+
+// A kind 6 as long as it may be, behind an empty condition that 5 refuses; one byte more, which is refused by 2; and a kind too many.
+pub(crate) fn kinds() {
+    zeros(
+        b"kind 6 of 255 bytes, condition empty",
+        b"SEQ1\x05\x01\x1e\x00\x04\x00\x02\x22\x00\x03\x00\x03\x25\x00\x00\x00\x04\x25\x00\x00\x00\x06\x25\x00\xff\x00\x01\x01\x01\x00",
+        292,
+    );
+    zeros(
+        b"kind 6 of 256 bytes",
+        b"SEQ1\x05\x01\x1e\x00\x04\x00\x02\x22\x00\x03\x00\x03\x25\x00\x00\x00\x04\x25\x00\x00\x00\x06\x25\x00\x00\x01\x01\x01\x01\x00",
+        293,
+    );
+    zeros(
+        b"kinds 1 to 7",
+        b"SEQ1\x07\x01\x28\x00\x04\x00\x02\x2c\x00\x00\x00\x03\x2c\x00\x00\x00\x04\x2c\x00\x00\x00\x05\x2c\x00\x00\x00\x06\x2c\x00\x00\x00\x07\x2c\x00\x00\x00\x01\x01\x00\x00",
+        44,
     );
 }
 

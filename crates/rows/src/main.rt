@@ -2,15 +2,17 @@
 // short name of the row, then its numbers.
 mod changes;
 mod conditions;
+mod frames;
 mod lamps;
 mod limits;
 mod lines;
 mod log;
-mod never;
 mod plans;
 mod ranks;
 mod records;
+mod samples;
 mod shorter;
+mod starts;
 
 fn main() {
     files();
@@ -21,8 +23,10 @@ fn main() {
     plans::expected_readings();
     plans::wrong_changes();
     shortened_plans();
-    never::lamp();
-    never::gate();
+    frames::lamp();
+    frames::gate();
+    frames::files();
+    few_starts();
 }
 
 // Conditions and reading a file.
@@ -34,6 +38,7 @@ fn files() {
     lamps::rows();
     limits::fewest();
     limits::most();
+    limits::kinds();
     limits::longest();
     records::rows();
 }
@@ -52,4 +57,11 @@ fn tables() {
     ranks::table_iv();
     ranks::wrong_sizes();
     ranks::wrong_tables();
+}
+
+// Table jobs told of few starts.
+fn few_starts() {
+    starts::gate_ranks();
+    starts::gate_runs();
+    starts::lamp();
 }

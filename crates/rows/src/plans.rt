@@ -7,6 +7,7 @@ use crate::lines::values;
 use crate::ranks::gate_frame;
 use crate::ranks::gate_table;
 use crate::ranks::lamp_frame;
+use crate::ranks::started;
 use machine::Frame;
 
 // The plan of the lamp where it fits, and one byte short.
@@ -33,20 +34,22 @@ pub(crate) fn planned(what: &[u8], frame: Frame, room: &mut [u8]) {
 
 // Runs to couples of the gate.
 pub(crate) fn gate_runs() {
+    let frame = gate_frame();
     let mut room = [7u8; 5];
-    run_to(b"gate run to 44", 44, &mut room);
+    run_to(b"gate run to 44", frame, 44, &mut room);
     let mut room = [7u8; 3];
-    run_to(b"gate run to 44 into 3 bytes", 44, &mut room);
+    run_to(b"gate run to 44 into 3 bytes", frame, 44, &mut room);
     let mut room = [7u8; 5];
-    run_to(b"gate run to 48", 48, &mut room);
+    run_to(b"gate run to 48", frame, 48, &mut room);
     let mut room = [7u8; 5];
-    run_to(b"gate run to 19", 19, &mut room);
+    run_to(b"gate run to 19", frame, 19, &mut room);
 }
 
-fn run_to(what: &[u8], couple: usize, room: &mut [u8]) {
+// The run to a couple of the gate's table with a frame.
+pub(crate) fn run_to(what: &[u8], frame: Frame, couple: usize, room: &mut [u8]) {
     let table = gate_table();
     let mut ranks = [7u16; 48];
-    let told = plan::run_to(gate_frame(), &table, &mut ranks, couple, room);
+    let told = plan::run_to(frame, &table, &mut ranks, couple, room);
     answer(what, told);
     bytes(room);
     end();
@@ -66,9 +69,11 @@ pub(crate) fn wrong_changes() {
     of_gate(b"gate two inputs changed", b"\x08\x0a\x0c");
 }
 
+// With both settings as allowed starts, so that a first one is refused for want of rest.
 fn of_lamp(what: &[u8], run: &[u8]) {
     let words = [0u16, 1];
-    readings_of(what, lamp_frame(0), b"\x00\x01\x00\x01", &words, run);
+    let frame = started(lamp_frame(0), [3, 0, 0, 0]);
+    readings_of(what, frame, b"\x00\x01\x00\x01", &words, run);
 }
 
 fn of_gate(what: &[u8], run: &[u8]) {

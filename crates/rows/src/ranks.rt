@@ -15,23 +15,33 @@ use machine::Frame;
 use machine::UNMARKED;
 use sets::WORDS;
 
-// The lamp's sizes with an initial state, and the gate's.
+// The frame of the lamp with an initial state, as its file without kind 6 has it.
 pub(crate) fn lamp_frame(initial: usize) -> Frame {
     Frame {
         inputs: 1,
         states: 2,
         initial: initial,
         never: [0; WORDS],
+        starts: [1, 0, 0, 0],
     }
 }
 
+// The frame of the gate, as its file has it: every setting is an allowed start.
 pub(crate) fn gate_frame() -> Frame {
     Frame {
         inputs: 4,
         states: 3,
         initial: 0,
         never: [0; WORDS],
+        starts: [65535, 0, 0, 0],
     }
+}
+
+// A frame with other starts.
+pub(crate) fn started(frame: Frame, starts: [u64; WORDS]) -> Frame {
+    let mut other = frame;
+    other.starts = starts;
+    other
 }
 
 // The moves of the gate: source document 002, table 1.
@@ -64,6 +74,7 @@ pub(crate) fn table_iv() {
         states: 5,
         initial: 0,
         never: [0; WORDS],
+        starts: [255, 0, 0, 0],
     };
     published(b"table IV", frame, &table, &mut ranks, 5);
 }
@@ -92,8 +103,12 @@ pub(crate) fn wrong_tables() {
 }
 
 fn refused(what: &[u8], initial: usize, table: &[u8]) {
+    marked_here(what, lamp_frame(initial), table);
+}
+
+pub(crate) fn marked_here(what: &[u8], frame: Frame, table: &[u8]) {
     let mut ranks = [7u16; 5];
-    let told = marking::mark(lamp_frame(initial), table, &mut ranks);
+    let told = marking::mark(frame, table, &mut ranks);
     answered(what, told, &ranks);
 }
 

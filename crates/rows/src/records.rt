@@ -1,10 +1,10 @@
 // The rows about the conditions of evolutions, by the records that reading the lamp handed on: 1 where one holds, else 0.
-use crate::lamps::LAMP;
-use crate::lamps::lamp_file;
 use crate::lines::end;
 use crate::lines::name;
 use crate::lines::number;
 use crate::lines::word;
+use crate::samples::LAMP;
+use crate::samples::lamp_file;
 use evolutions::Evolution;
 use specification::EVOLUTIONS;
 

@@ -6,10 +6,10 @@ use Rattle.rows.proofs.lamps.lamps.Statement.{statement}
 use Rattle.rows.proofs.lamps.lamps.Tie as tie
 
 abbrev Inv-loop : tie.InvT-loop
-Inv-loop ruled rows at₀ at = at ≤ length rows + 1
+Inv-loop entries rows at₀ at = at ≤ length rows + 1
 
 abbrev μ-loop : tie.MeasureT-loop
-μ-loop ruled rows at₀ at = length rows - at
+μ-loop entries rows at₀ at = length rows - at
 
 pub lamps-spec : {M : Type 1} → statement M
 lamps-spec =
