@@ -1,8 +1,8 @@
 -- What marking and the plan leave keeps off the settings that are ruled out: a couple of one has no rank, so that its element is 65,535,
--- and the runs of the plan visit marked couples alone.
+-- and the runs of the plan visit marked couples alone. Each is a run, so it starts at an allowed start.
 use mathlib.Core.Path.{_≡_}
 use mathlib.Core.Logic.{⊎-elim, inl}
-use mathlib.Core.List.{List}
+use mathlib.Core.List.{List, _∷_}
 use Prim.Native.Nat.{ℕ}
 use lib.ListN.{take}
 use Rattle.verdict.specs.Buffers.{Left}
@@ -24,4 +24,8 @@ module _ (f : Frame) (T : List ℕ) {ranks₀ ranks₁ : List ℕ} where
   marks-keep-off p e = ranks-off (p .ranks) e
 
   pub plan-keeps-off : {plan₀ plan₁ : List ℕ} {a : Answer} → PlannedAs (machineOf f T) ranks₀ plan₀ a ranks₁ plan₁ → a .number ≡ 0 → KeepsOff f T ranks₁ (take (a .place) plan₁)
-  plan-keeps-off p e = record { unranked = ranks-off (p .ranks) e; unvisited = λ vs i c out j. ruled-unmarked f T c out (plan-right p e .visits c .0 (vs, i, j)) }
+  plan-keeps-off p e = record {
+    unranked = ranks-off (p .ranks) e;
+    unvisited = λ vs i c out j. ruled-unmarked f T c out (plan-right p e .visits c .0 (vs, i, j));
+    allowed = λ v vs i. plan-right p e .runs (v ∷ vs) i .0 .allowed;
+  }
