@@ -3,12 +3,13 @@ use mathlib.Core.Path.{refl}
 use mathlib.Core.Logic.{⊎-elim, inl, inr}
 use mathlib.Core.List.{List, [], _∷_}
 use Prim.Native.Nat.{ℕ}
-use Rattle.machine.specs.Runs.{Machine, bareMachine}
+use lib.Dec.{eqb}
+use Rattle.machine.specs.Runs.{Machine, bareMachine, startingAt}
 use Rattle.shorten.specs.Shortening.{Shortens, Shortened}
 use Rattle.shorten.specs.Shortening.Shortens.{ends, out, stays}
 
 abbrev lamp : Machine
-lamp = bareMachine 1 2 0 (0 ∷ 1 ∷ 0 ∷ 1 ∷ [])
+lamp = startingAt (λ v. eqb v 0) (bareMachine 1 2 0 (0 ∷ 1 ∷ 0 ∷ 1 ∷ []))
 
 abbrev lampPlan : List (List ℕ)
 lampPlan = (0 ∷ []) ∷ (0 ∷ 1 ∷ []) ∷ (0 ∷ 1 ∷ 0 ∷ []) ∷ []

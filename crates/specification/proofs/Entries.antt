@@ -7,7 +7,7 @@ use Prim.Native.Nat.{ℕ, zero, suc, _+_, _-_, _≤_, _<_}
 use native.Mathlib.Omega.{arith}
 use native.Mathlib.Nat.{le-of-suc-le-suc, eq-or-lt-of-le}
 use lib.ListN.{length}
-use Rattle.specification.specs.File.{countOf, kindOf, lengthOf, startOf, kinds, EntryOf, Entries}
+use Rattle.specification.specs.File.{countOf, kindOf, lengthOf, startOf, EntryOf, Entries}
 use Rattle.specification.specs.inner.Private.{mostKinds, KindFits}
 use Rattle.specification.proofs.Laws.{start-more, start-le}
 

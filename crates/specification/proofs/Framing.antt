@@ -1,5 +1,5 @@
 -- The frame of a file is one: its sizes are the file's, and so are the sets of the settings that are never used and of the allowed starts.
-use mathlib.Core.Path.{_≡_, refl, sym, ap, ap₂, _∙_}
+use mathlib.Core.Path.{_≡_, sym, ap, ap₂, _∙_}
 use mathlib.Core.List.{List}
 use Prim.Native.Nat.{ℕ}
 use Rattle.sets.proofs.Arrays.{set-of-only}

@@ -11,7 +11,7 @@ use lib.Dec.{ltb, lit<}
 use lib.Pow.{pow-mono}
 use borrow.Author.Tests.{lt-ltb, le-ltb}
 use Rattle.verdict.specs.Checks.{Decides}
-use Rattle.sets.specs.Sets.{words, mostMembers, member, Words}
+use Rattle.sets.specs.Sets.{words, mostMembers, member}
 use Rattle.sets.proofs.Members.{zeros, member-beyond}
 use Rattle.sets.proofs.Arrays.{set-none}
 use Rattle.machine.specs.Limits.{mostInputs}

@@ -1,8 +1,8 @@
 -- The checks of a file's contents and records by computation: a test at each entry, record or pair of records tells that none is wrong.
-use mathlib.Core.Path.{_≡_, refl}
+use mathlib.Core.Path.{_≡_}
 use mathlib.Core.Logic.{_⊎_, inl, inr, ⊎-elim}
 use mathlib.Core.List.{List}
-use mathlib.Core.Bool.{Bool, true, false, not, _&&_, cond}
+use mathlib.Core.Bool.{Bool, true, not, _&&_, cond}
 use Prim.Native.Nat.{ℕ, suc, _+_, _*_, _-_, _%_, _^_, _≤_, _<_}
 use native.Mathlib.Omega.{arith}
 use lib.ListN.{length, take}
@@ -10,7 +10,7 @@ use lib.Dec.{eqb, leb, ltb}
 use Rattle.verdict.specs.Checks.{Decides, None}
 use Rattle.machine.specs.Limits.{mostInputs, mostStates}
 use Rattle.machine.specs.Moves.{SameWord}
-use Rattle.verdict.proofs.Tests.{it-fails, decides-map, decides-leb, decides-equal, decides-below, decides-not, decides-either, _also_}
+use Rattle.verdict.proofs.Tests.{decides-leb, decides-equal, decides-below, decides-not, decides-either, _also_}
 use Rattle.machine.proofs.Tests.{every, decides-every}
 use Rattle.specification.specs.Limits.{mostOutputs, mostEvolutions, mostBytes, mostText}
 use Rattle.specification.specs.File.{mark, countOf, entryAt, kinds, startsKind, kindOf, offsetOf, lengthOf, startOf, Has, WellFormed}

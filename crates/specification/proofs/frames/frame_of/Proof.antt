@@ -2,7 +2,6 @@
 use borrow.Author.Needs.{needs}
 use native.Mathlib.Omega.{arith}
 use mathlib.Core.Path.{_≡_, refl}
-use Prim.Native.Nat.{ℕ}
 use lib.Pow.{pow-pos}
 use Rattle.sets.specs.Sets.{words, SetOf}
 use Rattle.sets.proofs.Arrays.{set-none, set-in, set-wide}
