@@ -46,8 +46,8 @@ module _ (file : List ℕ) (z : Sizes) (r : ℕ) where
   condition-body h = rw (le-ltb r (records z) h)
 
 -- the condition of record r is the part of the file between its place and the next
-module _ {file : List ℕ} {z : Sizes} {starts : List ℕ} (p : Placed file z starts) {r : ℕ} (h : r < records z) where
-  pub record-ends : (getD starts (r + 1) 0 ≡ getD starts r 0 + textLength file z r) × (getD starts (r + 1) 0 ≤ length file)
+module _ {file : List ℕ} {z : Sizes} {places : List ℕ} (p : Placed file z places) {r : ℕ} (h : r < records z) where
+  pub record-ends : (getD places (r + 1) 0 ≡ getD places r 0 + textLength file z r) × (getD places (r + 1) 0 ≤ length file)
   record-ends =
       let e = sum-more (textLength file z) r in
       let b = sum-below (textLength file z) r (records z) h in
@@ -55,9 +55,9 @@ module _ {file : List ℕ} {z : Sizes} {starts : List ℕ} (p : Placed file z st
       let n = p .at (r + 1) (omega arith) in
       (omega arith, omega (arith, p .laid .texts))
 
-  pub record-text : take (getD starts (r + 1) 0 - getD starts r 0) (drop (getD starts r 0) file) ≡ textOf file z r
+  pub record-text : take (getD places (r + 1) 0 - getD places r 0) (drop (getD places r 0) file) ≡ textOf file z r
   record-text =
-      let n : getD starts (r + 1) 0 - getD starts r 0 ≡ textLength file z r = omega (arith, record-ends .0) in
+      let n : getD places (r + 1) 0 - getD places r 0 ≡ textLength file z r = omega (arith, record-ends .0) in
       ap₂ (λ (n at : ℕ). take n (drop at file)) n (p .at r (omega arith))
 
 -- 5 is the refusal of a condition that does not read

@@ -101,7 +101,7 @@ pub data Allowed (file : List ℕ) (z : Sizes) (v : ℕ) : Type 0 where
   said : HoldsIn file z startsKind v → Allowed file z v
   power-up : (Has file startsKind → ⊥) → v ≡ 0 → Allowed file z v
 
--- a run may start at an allowed start that is used
+-- a run may start at an allowed start that kind 5 does not rule out
 abbrev pub MayStart : List ℕ → Sizes → ℕ → Type 0
 MayStart file z v = Allowed file z v × (Never file z v → ⊥)
 

@@ -31,7 +31,7 @@ use crate::rules::TEXTS;
 use crate::rules::check_texts;
 use crate::rules::fill_moves;
 use crate::rules::next_rules;
-use crate::rules::starts_of;
+use crate::rules::places_of;
 use basics::narrow;
 use machine::Frame;
 use tables::check_sound;
@@ -100,8 +100,8 @@ fn check_shape(file: &[u8], table: usize, words: usize, records: usize) -> Shape
 }
 
 // Refusals 4 to 7.
-fn check_records(file: &[u8], z: Sizes, starts: &[usize; TEXTS]) -> Answer
-    requires { ⌜ Placed (now file) z (now starts) ⌝ }
+fn check_records(file: &[u8], z: Sizes, places: &[usize; TEXTS]) -> Answer
+    requires { ⌜ Placed (now file) z (now places) ⌝ }
     ensures { λ r. ⌜ Judged (recordChecks (now (file .entry)) z) Passed r ⌝ }
 {
     if let Found::At(p) = first_wrong(file, z, RecordCheck::Beyond) {
@@ -110,7 +110,7 @@ fn check_records(file: &[u8], z: Sizes, starts: &[usize; TEXTS]) -> Answer
             place: p,
         };
     }
-    let texts = check_texts(file, z, starts);
+    let texts = check_texts(file, z, places);
     if texts.number != 0 {
         return texts;
     }
@@ -164,15 +164,15 @@ fn settle(file: &[u8], z: Sizes, frame: Frame, table: &mut [u8], words: &mut [u1
     ensures table { λ r. ⌜ Filled (couplesOf z) (λ p x. r .number ≡ 0 → MoveAt (now (file .entry)) z (settings z) p x) (now (table .entry)) (now (table .exit)) ⌝ }
     ensures words { λ r. ⌜ Filled (z .states) (λ s w. r .number ≡ 0 → w ≡ wordOf (now (file .entry)) z s) (now (words .entry)) (now (words .exit)) ⌝ }
 {
-    let starts = starts_of(file, z);
-    let a = check_records(file, z, &starts);
+    let places = places_of(file, z);
+    let a = check_records(file, z, &places);
     if a.number != 0 {
         return a;
     }
     fill_words(file, z, words);
     let next = next_rules(file, z);
     let m = machine::settings(z.inputs);
-    if let Found::At(p) = fill_moves(file, z, &starts, &next, m, table) {
+    if let Found::At(p) = fill_moves(file, z, &places, &next, m, table) {
         return Answer {
             number: 8,
             place: p,

@@ -33,29 +33,29 @@ pub(crate) const TEXTS: usize = STATES + EVOLUTIONS + 1;
 pub(crate) const BLANK_MOVE: u8 = 255;
 
 // Where the text of each record begins, and where the last one ends.
-pub(crate) fn starts_of(file: &[u8], z: Sizes) -> [usize; TEXTS]
+pub(crate) fn places_of(file: &[u8], z: Sizes) -> [usize; TEXTS]
     requires { ⌜ Laid (now file) z ⌝ }
     ensures { λ t. ⌜ Placed (now (file .entry)) z t ⌝ }
 {
     let count = z.states + z.evolutions;
-    let mut starts = [0usize; TEXTS];
+    let mut places = [0usize; TEXTS];
     let mut at = record_at(z, count);
     for r in 0..count {
-        starts[r] = at;
+        places[r] = at;
         at = at + text_length(file, z, r);
     }
-    starts[count] = at;
-    starts
+    places[count] = at;
+    places
 }
 
 // What condition r says at setting 0: that of a record, or a body beyond kind 4.
-fn says(file: &[u8], z: Sizes, starts: &[usize; TEXTS], r: usize) -> Meaning
-    requires { ⌜ Placed (now file) z (now starts) × (r < conditions z) ⌝ }
+fn says(file: &[u8], z: Sizes, places: &[usize; TEXTS], r: usize) -> Meaning
+    requires { ⌜ Placed (now file) z (now places) × (r < conditions z) ⌝ }
     ensures { λ m. ⌜ Says (z .inputs) 0 (conditionOf (now (file .entry)) z r) m ⌝ }
 {
     let count = z.states + z.evolutions;
     if r < count {
-        return condition::read(&file[starts[r]..starts[r + 1]], z.inputs, 0);
+        return condition::read(&file[places[r]..places[r + 1]], z.inputs, 0);
     }
     let k = KINDS + (r - count);
     let at = offset_of(file, k);
@@ -63,13 +63,13 @@ fn says(file: &[u8], z: Sizes, starts: &[usize; TEXTS], r: usize) -> Meaning
 }
 
 // Refusal 5.
-pub(crate) fn check_texts(file: &[u8], z: Sizes, starts: &[usize; TEXTS]) -> Answer
-    requires { ⌜ Placed (now file) z (now starts) ⌝ }
+pub(crate) fn check_texts(file: &[u8], z: Sizes, places: &[usize; TEXTS]) -> Answer
+    requires { ⌜ Placed (now file) z (now places) ⌝ }
     ensures { λ t. ⌜ Judged (check 5 (Unreads (now (file .entry)) z) ∷ []) Passed t ⌝ }
 {
     let count = z.states + z.evolutions + z.more;
     for r in 0..count {
-        let Meaning::Is(_) = says(file, z, starts, r) else {
+        let Meaning::Is(_) = says(file, z, places, r) else {
             return Answer {
                 number: 5,
                 place: r,
@@ -90,19 +90,19 @@ pub(crate) fn character_of(file: &[u8], z: Sizes, a: Answer) -> usize
     if a.number != 5 {
         return 0;
     }
-    let starts = starts_of(file, z);
-    match says(file, z, &starts, a.place) {
+    let places = places_of(file, z);
+    match says(file, z, &places, a.place) {
         Meaning::Is(_) => 0,
         Meaning::Unread(character) => character,
     }
 }
 
 // Whether the condition of record r holds at the setting v.
-fn rule_holds(file: &[u8], z: Sizes, starts: &[usize; TEXTS], r: usize, v: usize) -> bool
-    requires { ⌜ Placed (now file) z (now starts) × (r < records z) ⌝ }
+fn rule_holds(file: &[u8], z: Sizes, places: &[usize; TEXTS], r: usize, v: usize) -> bool
+    requires { ⌜ Placed (now file) z (now places) × (r < records z) ⌝ }
     ensures { λ b. ⌜ Decides (Holds (z .inputs) v (textOf (now (file .entry)) z r)) b ⌝ }
 {
-    condition::holds(&file[starts[r]..starts[r + 1]], z.inputs, v)
+    condition::holds(&file[places[r]..places[r + 1]], z.inputs, v)
 }
 
 // The state that record r is a rule of.
@@ -159,12 +159,12 @@ pub(crate) fn next_rules(file: &[u8], z: Sizes) -> [usize; TEXTS]
 pub(crate) fn fill_moves(
     file: &[u8],
     z: Sizes,
-    starts: &[usize; TEXTS],
+    places: &[usize; TEXTS],
     next: &[usize; TEXTS],
     m: usize,
     table: &mut [u8],
 ) -> Found
-    requires { ⌜ Placed (now file) z (now starts) × Linked (now file) z (now next) × ((r : ℕ) → r < records z → leadsTo (now file) z r < z .states) × (m ≤ mostSettings) × (z .states * m ≤ length (now table)) ⌝ }
+    requires { ⌜ Placed (now file) z (now places) × Linked (now file) z (now next) × ((r : ℕ) → r < records z → leadsTo (now file) z r < z .states) × (m ≤ mostSettings) × (z .states * m ≤ length (now table)) ⌝ }
     ensures finds { λ t. ⌜ Finds (TwoRules (now (file .entry)) z m) t ⌝ }
     ensures fills { λ t. ⌜ Filled (z .states * m) (λ p x. t ≡ Found.Nothing → Noted (now (file .entry)) z m p x) (now (table .entry)) (now (table .exit)) ⌝ }
 {
@@ -177,7 +177,7 @@ pub(crate) fn fill_moves(
             let mut to = BLANK_MOVE;
             let mut r = s;
             while r < count {
-                if rule_holds(file, z, starts, r, v) {
+                if rule_holds(file, z, places, r, v) {
                     if to != BLANK_MOVE {
                         found = Found::At(p);
                         break 'search;

@@ -55,9 +55,9 @@ pub record Laid (file : List ℕ) (z : Sizes) : Type 0 where
   pub few : length file ≤ mostBytes
 
 -- and where each text begins, and the last one ends
-pub record Placed (file : List ℕ) (z : Sizes) (starts : List ℕ) : Type 0 where
+pub record Placed (file : List ℕ) (z : Sizes) (places : List ℕ) : Type 0 where
   pub laid : Laid file z
-  pub at : (r : ℕ) → r ≤ records z → getD starts r 0 ≡ textAt file z r
+  pub at : (r : ℕ) → r ≤ records z → getD places r 0 ≡ textAt file z r
 
 -- the set by the body of a kind: the settings at which it holds, or another set where there is no such body
 pub data SetIn (file : List ℕ) (z : Sizes) (kind : ℕ) (otherwise set : List ℕ) : Type 0 where

@@ -10,7 +10,7 @@ returns : tie.Need-returns
 returns c = record { unread = λ e. absurd (c .if1 .taken e); other = λ _. refl }
 
 says-requires : tie.Need-says-requires
-says-requires c κs = (c .before .starts-of .ensures, five-unreads (c .before .before .before .before .before .pre .1) (c .before .before .if1 .left) .below)
+says-requires c κs = (c .before .places-of .ensures, five-unreads (c .before .before .before .before .before .pre .1) (c .before .before .if1 .left) .below)
 
 returns-2 : tie.Need-returns-2
 returns-2 c = absurd (five-unreads (c .before .before .before .before .before .before .before .before .pre .1) (c .before .before .before .before .before .if1 .left) .unread (told-reads (c .before .before .says .ensures) (c .enum-told .given .1)))

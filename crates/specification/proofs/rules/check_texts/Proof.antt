@@ -11,10 +11,10 @@ use Rattle.specification.proofs.rules.check_texts.Statement.{statement}
 use Rattle.specification.proofs.rules.check_texts.Tie as tie
 
 abbrev Inv-loop : tie.InvT-loop
-Inv-loop file z starts count r₀ r = (r ≤ count) × Unseen (Unreads file z) r
+Inv-loop file z places count r₀ r = (r ≤ count) × Unseen (Unreads file z) r
 
 abbrev μ-loop : tie.MeasureT-loop
-μ-loop file z starts count r₀ r = count - r
+μ-loop file z places count r₀ r = count - r
 
 add-count-2 : tie.Need-add-count-2 Inv-loop μ-loop
 add-count-2 c = omega (arith, conditions-few (c .before .before .before .pre .laid))

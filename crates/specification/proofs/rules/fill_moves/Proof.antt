@@ -21,22 +21,22 @@ use Rattle.specification.proofs.rules.fill_moves.Statement.{statement}
 use Rattle.specification.proofs.rules.fill_moves.Tie as tie
 
 abbrev Inv-loop2 : tie.InvT-loop2
-Inv-loop2 file z starts next m table states count found₀ s v p to₀ r₀ found to r = (r ≤ count) × (r < count → ruleOf file z r ≡ s) × (found ≡ Nothing) × Tally (Fires file z s v) (leadsTo file z) r to
+Inv-loop2 file z places next m table states count found₀ s v p to₀ r₀ found to r = (r ≤ count) × (r < count → ruleOf file z r ≡ s) × (found ≡ Nothing) × Tally (Fires file z s v) (leadsTo file z) r to
 
 abbrev μ-loop2 : tie.MeasureT-loop2
-μ-loop2 file z starts next m table states count found₀ s v p to₀ r₀ found to r = count - r
+μ-loop2 file z places next m table states count found₀ s v p to₀ r₀ found to r = count - r
 
 abbrev Inv-loop : tie.InvT-loop
-Inv-loop file z starts next m table₀ states count found₀ s v₀ table found v = (v ≤ m) × (found ≡ Nothing) × Unseen (TwoRules file z m) (s * m + v) × (z .states * m ≤ length table) × Onward (Noted file z m) (s * m) (s * m + v) table₀ table
+Inv-loop file z places next m table₀ states count found₀ s v₀ table found v = (v ≤ m) × (found ≡ Nothing) × Unseen (TwoRules file z m) (s * m + v) × (z .states * m ≤ length table) × Onward (Noted file z m) (s * m) (s * m + v) table₀ table
 
 abbrev μ-loop : tie.MeasureT-loop
-μ-loop file z starts next m table₀ states count found₀ s v₀ table found v = m - v
+μ-loop file z places next m table₀ states count found₀ s v₀ table found v = m - v
 
 abbrev Inv-search : tie.InvT-search
-Inv-search file z starts next m table₀ states count found₀ s₀ table found s = (s ≤ states) × (found ≡ Nothing) × Unseen (TwoRules file z m) (s * m) × Filled (s * m) (Noted file z m) table₀ table
+Inv-search file z places next m table₀ states count found₀ s₀ table found s = (s ≤ states) × (found ≡ Nothing) × Unseen (TwoRules file z m) (s * m) × Filled (s * m) (Noted file z m) table₀ table
 
 abbrev μ-search : tie.MeasureT-search
-μ-search file z starts next m table₀ states count found₀ s₀ table found s = states - s
+μ-search file z places next m table₀ states count found₀ s₀ table found s = states - s
 
 search-holds : tie.Need-search-holds Inv-loop2 μ-loop2 Inv-loop μ-loop Inv-search μ-search
 search-holds c = (search needs, search needs, unseen-at unseen-start (omega arith), filled-at (filled-none _) (omega arith))

@@ -1,4 +1,4 @@
--- `starts_of` adds up lengths: `at` is where text r begins, and the first r places are right.
+-- `places_of` adds up lengths: `at` is where text r begins, and the first r places are right.
 use borrow.Author.Needs.{needs}
 use native.Mathlib.Omega.{arith}
 use mathlib.Core.Path.{_≡_, ap, _∙_}
@@ -9,14 +9,14 @@ use Rattle.specification.specs.Records.{sumTo, records, textLength}
 use Rattle.specification.specs.Rules.{textAt}
 use Rattle.specification.proofs.Conditions.{placed}
 use Rattle.specification.proofs.Laws.{sum-more}
-use Rattle.specification.proofs.rules.starts_of.Statement.{statement}
-use Rattle.specification.proofs.rules.starts_of.Tie as tie
+use Rattle.specification.proofs.rules.places_of.Statement.{statement}
+use Rattle.specification.proofs.rules.places_of.Tie as tie
 
 abbrev Inv-loop : tie.InvT-loop
-Inv-loop file z count starts₀ at₀ r₀ starts at r = (r ≤ count) × (at ≡ textAt file z r) × (sumTo (textLength file z) r ≤ 2 ^ 8 * r) × Filled r (λ k x. x ≡ textAt file z k) starts₀ starts
+Inv-loop file z count places₀ at₀ r₀ places at r = (r ≤ count) × (at ≡ textAt file z r) × (sumTo (textLength file z) r ≤ 2 ^ 8 * r) × Filled r (λ k x. x ≡ textAt file z k) places₀ places
 
 abbrev μ-loop : tie.MeasureT-loop
-μ-loop file z count starts₀ at₀ r₀ starts at r = count - r
+μ-loop file z count places₀ at₀ r₀ places at r = count - r
 
 loop-holds : tie.Need-loop-holds Inv-loop μ-loop
 unfolding sumTo
@@ -32,8 +32,8 @@ returns c =
     let e : c .before .loop .r ≡ records (c .before .before .before .before .before .args .z) = omega arith in
     placed (c .before .before .before .before .before .pre) (filled-at (c .before .loop .inv .3) e) (omega arith) (c .before .loop .inv .1 ∙ ap (textAt (c .before .before .before .before .before .args .file .now) (c .before .before .before .before .before .args .z)) e)
 
-pub starts-of-spec : {M : Type 1} → statement M
-starts-of-spec =
+pub places-of-spec : {M : Type 1} → statement M
+places-of-spec =
     tie.close
     (tie.spec
     Inv-loop
