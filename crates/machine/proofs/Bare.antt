@@ -38,6 +38,6 @@ module _ (f : Frame) where
       let g = getD-replicate words (v / 64) (2 ^ 64 - 1) 0 (omega (arith, pow-mono {i = f .inputs} {j = mostInputs} h)) in
       rw (e, g) b
 
-  -- starts as they were before some were allowed and others not
+  -- with every setting an allowed start a run may start at any that is not ruled out
   pub starts-anywhere : (T : List ℕ) → ((v : ℕ) → v < 2 ^ f .inputs → member (f .starts) v ≡ true) → SameRuns (machineOf f T) (startingAt (usable f) (machineOf f T))
   starts-anywhere T all = same-runs (machineOf f T) (record { starts = λ v l. ap (λ (b : Bool). b && usable f v) (all v l); changes = λ v w l. refl })

@@ -114,6 +114,7 @@ module _ (m : Machine) {r q : Rules} (h : Agree (size m) r q) where
 pub same-runs : (m : Machine) {r q : Rules} → Agree (size m) r q → SameRuns (under m r) (under m q)
 same-runs m h = record {
   runs = λ vs. (run-same m h vs, run-same m (agree-back h) vs);
+  faults = λ vs i. (fault-same m h i, fault-same m (agree-back h) i);
   ranks = λ rs. (ranks-same m h rs, ranks-same m (agree-back h) rs);
   runs-to = λ c vs. (run-to-same m h c vs, run-to-same m (agree-back h) c vs);
   plans = λ t plan. (plan-same m h, plan-same m (agree-back h));

@@ -1,9 +1,9 @@
 -- Lists of ranks and parents that pass a test are those of the machine: ranks are 0 at starts and rise by at most one at each change,
 -- and each other rank has a parent of the rank before, of which none is smaller.
 use mathlib.Core.Path.{_≡_, refl, sym, ap, subst, _∙_}
-use mathlib.Core.Logic.{_⊎_, ⊎-elim, inl, inr}
+use mathlib.Core.Logic.{⊎-elim, inl, inr}
 use mathlib.Core.List.{List, [], _∷_}
-use mathlib.Core.Bool.{Bool, true, false, not, cond}
+use mathlib.Core.Bool.{Bool, true, not, _&&_, cond}
 use Prim.Native.Nat.{ℕ, zero, suc, _/_, _%_, _≤_, _<_}
 use native.Mathlib.Omega.{arith}
 use lib.ListN.{getD, length}
@@ -20,7 +20,7 @@ use Rattle.machine.proofs.Exists.{marked-below, marked-rank, trail-belo
 use Rattle.machine.proofs.Small.{rank-unique, rank-small}
 use Rattle.machine.proofs.Tests.{decides-every, every, starts, decides-starts, steps, decides-steps, whole}
 use Rattle.verdict.specs.Checks.{Decides}
-use Rattle.verdict.proofs.Tests.{decides-map, decides-equal, decides-below, decides-not, decides-both, decides-if}
+use Rattle.verdict.proofs.Tests.{decides-map, decides-equal, decides-below, decides-not, _also_, decides-if}
 
 -- what is asked at couple c
 pub record Right (m : Machine) (R P : List ℕ) (c : ℕ) : Type 0 where
@@ -33,33 +33,32 @@ pub record Right (m : Machine) (R P : List ℕ) (c : ℕ) : Type 0 where
 
 module _ (m : Machine) (R P : List ℕ) where
   startAt : ℕ → Bool
-  startAt c = cond (eqb (c / size m) (m .initial)) (starts m (c % size m)) false
+  startAt c = eqb (c / size m) (m .initial) && starts m (c % size m)
 
   unfoldable pub right : ℕ → Bool
   unfolding startAt
   right c =
-      cond (ltb (getD R c 0) (suc unmarked))
-      (cond (cond (eqb (getD R c 0) 0) (startAt c) true)
-      (cond (cond (startAt c) (eqb (getD R c 0) 0) true)
-      (cond (every (couples m) (λ p. cond (steps m p c) (ltb (getD R c 0) (suc (suc (getD R p 0)))) true))
-      (cond (cond (cond (ltb 0 (getD R c 0)) (ltb (getD R c 0) unmarked) false)
-      (cond (ltb (getD P c 0) (couples m)) (cond (steps m (getD P c 0) c) (eqb (suc (getD R (getD P c 0) 0)) (getD R c 0)) false) false) true)
-      (every (getD P c 0) (λ q. not (cond (steps m q c) (eqb (suc (getD R q 0)) (getD R c 0)) false))) false) false) false) false) false
+      ltb (getD R c 0) (suc unmarked)
+      && (cond (eqb (getD R c 0) 0) (startAt c) true
+      && (cond (startAt c) (eqb (getD R c 0) 0) true
+      && (every (couples m) (λ p. cond (steps m p c) (ltb (getD R c 0) (suc (suc (getD R p 0)))) true)
+      && (cond (ltb 0 (getD R c 0) && ltb (getD R c 0) unmarked) (ltb (getD P c 0) (couples m) && (steps m (getD P c 0) c && eqb (suc (getD R (getD P c 0) 0)) (getD R c 0))) true
+      && every (getD P c 0) (λ q. not (steps m q c && eqb (suc (getD R q 0)) (getD R c 0)))))))
 
   decides-right : (c : ℕ) → Decides (Right m R P c) (right c)
   unfolding right startAt
   decides-right c = decides-map
       (λ x. record { small = x .0; begins = x .1 .0; start = x .1 .1 .0; rises = x .1 .1 .1 .0; parent = x .1 .1 .1 .1 .0; least = x .1 .1 .1 .1 .1 })
       (λ x. (x .small, (x .begins, (x .start, (x .rises, (x .parent, x .least))))))
-      (decides-both (decides-below _ _)
-      (decides-both (decides-if (decides-equal _ _) at-start)
-      (decides-both (decides-if at-start (decides-equal _ _))
-      (decides-both (decides-every (couples m) _ _ (λ p. decides-if (decides-steps m p c) (decides-below _ _)))
-      (decides-both (decides-if (decides-both (decides-below _ _) (decides-below _ _)) (decides-both (decides-below _ _) (decides-both (decides-steps m _ c) (decides-equal _ _))))
-      (decides-every (getD P c 0) _ _ (λ q. decides-not (decides-both (decides-steps m q c) (decides-equal _ _)))))))))
+      (decides-below _ _
+      also (decides-if (decides-equal _ _) at-start
+      also (decides-if at-start (decides-equal _ _)
+      also (decides-every (couples m) _ _ (λ p. decides-if (decides-steps m p c) (decides-below _ _))
+      also (decides-if (decides-below _ _ also decides-below _ _) (decides-below _ _ also (decides-steps m _ c also decides-equal _ _))
+      also decides-every (getD P c 0) _ _ (λ q. decides-not (decides-steps m q c also decides-equal _ _)))))))
     where
       at-start : Decides ((c / size m ≡ m .initial) × Starts m (c % size m)) (startAt c)
-      at-start = decides-both (decides-equal _ _) (decides-starts m _)
+      at-start = decides-equal _ _ also decides-starts m _
 
   module _ (ok : Sound m) (few : couples m ≤ unmarked) (all : (c : ℕ) → c < couples m → Right m R P c) where
     -- no trail is shorter than the rank that stands in the list

@@ -1,14 +1,14 @@
 -- Tests at each place below a number, and of starts, changes and steps: each from the tests of its parts.
 use mathlib.Core.Path.{_≡_, sym, ap, subst, _∙_}
 use mathlib.Core.Logic.{_⊎_, ⊎-elim}
-use mathlib.Core.Bool.{Bool, true, false, cond}
+use mathlib.Core.Bool.{Bool, true, _&&_, cond}
 use Prim.Native.Nat.{ℕ, zero, suc, _/_, _%_, _<_}
 use native.Mathlib.Nat.{div-add-mod', mod-lt}
 use native.Mathlib.Omega.{arith}
 use lib.Dec.{eqb, ltb}
 use lib.Pow.{pow-pos, high, low}
 use Rattle.verdict.specs.Checks.{Decides}
-use Rattle.verdict.proofs.Tests.{it-holds, decides-map, decides-equal, decides-below, decides-true, decides-both, decides-either}
+use Rattle.verdict.proofs.Tests.{it-holds, decides-map, decides-equal, decides-below, decides-true, _also_, decides-either}
 use Rattle.machine.specs.Runs.{Machine, size, couple, move, Starts, Changes}
 use Rattle.machine.specs.Shortest.{Steps}
 use Rattle.machine.proofs.Order.{equal-or}
@@ -17,7 +17,7 @@ use Rattle.machine.proofs.Trails.{stepped}
 -- a test at each place below t
 unfoldable pub every : ℕ → (ℕ → Bool) → Bool
 every zero f = true
-every (suc t) f = cond (f t) (every t f) false
+every (suc t) f = f t && every t f
 
 pub decides-every : (t : ℕ) (f : ℕ → Bool) (P : ℕ → Type 0) → ((c : ℕ) → Decides (P c) (f c)) → Decides ((c : ℕ) → c < t → P c) (every t f)
 unfolding every
@@ -25,31 +25,31 @@ decides-every zero f P each = it-holds (λ c l. absurd (omega arith))
 decides-every (suc t) f P each = decides-map
     (λ x c l. ⊎-elim (λ e. subst P (sym e) (x .0)) (λ (e : c ≡ t → ⊥). x .1 c (omega arith)) (equal-or c t))
     (λ x. (x t (omega arith), λ c l. x c (omega arith)))
-    (decides-both (each t) (decides-every t f P each))
+    (each t also decides-every t f P each)
 
 module _ (m : Machine) where
   unfoldable pub starts : ℕ → Bool
-  starts v = cond (ltb v (size m)) (cond (eqb (move m (m .initial) v) (m .initial)) (m .mayStart v) false) false
+  starts v = ltb v (size m) && (eqb (move m (m .initial) v) (m .initial) && m .mayStart v)
 
   pub decides-starts : (v : ℕ) → Decides (Starts m v) (starts v)
   unfolding starts
   decides-starts v = decides-map
       (λ x. record { below = x .0; rests = x .1 .0; allowed = x .1 .1 }) (λ x. (x .below, (x .rests, x .allowed)))
-      (decides-both (decides-below v (size m)) (decides-both (decides-equal (move m (m .initial) v) (m .initial)) (decides-true (m .mayStart v))))
+      (decides-below v (size m) also (decides-equal (move m (m .initial) v) (m .initial) also decides-true (m .mayStart v)))
 
   unfoldable pub changes : ℕ → ℕ → Bool
-  changes v w = cond (ltb w (size m)) (m .mayChange v w) false
+  changes v w = ltb w (size m) && m .mayChange v w
 
   pub decides-changes : (v w : ℕ) → Decides (Changes m v w) (changes v w)
   unfolding changes
-  decides-changes v w = decides-map (λ x. record { below = x .0; allowed = x .1 }) (λ x. (x .below, x .allowed)) (decides-both (decides-below w (size m)) (decides-true (m .mayChange v w)))
+  decides-changes v w = decides-map (λ x. record { below = x .0; allowed = x .1 }) (λ x. (x .below, x .allowed)) (decides-below w (size m) also decides-true (m .mayChange v w))
 
   pub whole : (p : ℕ) → p ≡ couple m (p / size m) (p % size m)
   whole p = sym (div-add-mod' p (size m))
 
   -- from p, in state s at v, by a change to w, to c
   stepsBy : ℕ → ℕ → ℕ → ℕ → Bool
-  stepsBy s v w c = cond (eqb (move m s v) s) (cond (changes v w) (cond (eqb c (couple m s w)) true (eqb c (couple m (move m s w) w))) false) false
+  stepsBy s v w c = eqb (move m s v) s && (changes v w && cond (eqb c (couple m s w)) true (eqb c (couple m (move m s w) w)))
 
   unfoldable pub steps : ℕ → ℕ → Bool
   unfolding stepsBy
@@ -58,7 +58,7 @@ module _ (m : Machine) where
   pub decides-steps : (p c : ℕ) → Decides (Steps m p c) (steps p c)
   unfolding steps
   decides-steps p c = decides-map to-steps of-steps
-      (decides-both (decides-equal (move m s v) s) (decides-both (decides-changes v w) (decides-either (decides-equal c (couple m s w)) (decides-equal c (couple m (move m s w) w)))))
+      (decides-equal (move m s v) s also (decides-changes v w also decides-either (decides-equal c (couple m s w)) (decides-equal c (couple m (move m s w) w))))
     where
       s : ℕ
       s = p / size m

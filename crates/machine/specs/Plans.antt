@@ -4,7 +4,7 @@ use mathlib.Core.List.{List, [], _∷_, _++_}
 use Prim.Native.Nat.{ℕ, zero, suc, _+_, _*_, _/_, _%_}
 use lib.ListN.{length, take, drop}
 use Rattle.machine.specs.Lists.{In}
-use Rattle.machine.specs.Runs.{Machine, Run, visits, Marked, RanksOf}
+use Rattle.machine.specs.Runs.{Machine, Run, Fault, visits, Marked, RanksOf}
 use Rattle.machine.specs.Shortest.{RunTo}
 
 -- some run of the list visits c
@@ -35,9 +35,10 @@ split (suc k) (low ∷ high ∷ bs) = take (high * 256 + low) bs ∷ split k (dr
 abbrev pub runsIn : List ℕ → List (List ℕ)
 runsIn bs = split (length bs) bs
 
--- two machines have the same runs, ranks, runs to a couple and plans
+-- two machines have the same runs, faults, ranks, runs to a couple and plans
 pub record SameRuns (m w : Machine) : Type 0 where
   pub runs : (vs : List ℕ) → Run m vs ↔ Run w vs
+  pub faults : (vs : List ℕ) (i : ℕ) → Fault m vs i ↔ Fault w vs i
   pub ranks : (rs : List ℕ) → RanksOf m rs ↔ RanksOf w rs
   pub runs-to : (c : ℕ) (vs : List ℕ) → RunTo m c vs ↔ RunTo w c vs
   pub plans : (t : ℕ) (plan : List (List ℕ)) → Plan m t plan ↔ Plan w t plan

@@ -5,7 +5,6 @@ use mathlib.Core.Logic.{⊎-elim}
 use mathlib.Core.Bool.{Bool, _||_}
 use mathlib.Core.List.{List, [], _∷_}
 use Prim.Native.Nat.{ℕ, zero, suc, _+_, _*_, _^_, _≤_, _<_}
-use native.Mathlib.Nat.{le-refl}
 use native.Mathlib.Omega.{arith}
 use mir.Syntax.{w64}
 use mir.Val.{Val}
@@ -77,23 +76,16 @@ module _ {P : ℕ → Type 0} where
           (decides-or (decides-below v (64 * n)));
     }
 
-    pub set-out : (P s → ⊥) → SetOf n (s + 1) P a
-    set-out none = record {
-      array = x .array;
-      each = λ v l. ⊎-elim
-          (λ q. subst (λ (u : ℕ). Decides (P u) (member a u)) (sym q) (subst (Decides (P s)) (sym (x .beyond s (le-refl s))) (it-fails none)))
-          (λ (q : v ≡ s → ⊥). x .each v (omega arith))
-          (decides-or (decides-equal v s));
-      beyond = λ v l. x .beyond v (omega arith);
-    }
-
     -- of more settings it is the same, where nothing more holds
-    pub set-wide : (m : ℕ) → s ≤ m → ((v : ℕ) → s ≤ v → P v → ⊥) → SetOf n m P a
+    pub set-wide : (m : ℕ) → s ≤ m → ((v : ℕ) → s ≤ v → v < m → P v → ⊥) → SetOf n m P a
     set-wide m h none = record {
       array = x .array;
       each = λ v l. ⊎-elim
           (λ k. x .each v k)
-          (λ (k : v < s → ⊥). let o : s ≤ v = omega arith in subst (Decides (P v)) (sym (x .beyond v o)) (it-fails (none v o)))
+          (λ (k : v < s → ⊥). let o : s ≤ v = omega arith in subst (Decides (P v)) (sym (x .beyond v o)) (it-fails (none v o l)))
           (decides-or (decides-below v s));
       beyond = λ v l. x .beyond v (omega arith);
     }
+
+    pub set-out : (P s → ⊥) → SetOf n (s + 1) P a
+    set-out none = set-wide (s + 1) (omega arith) (λ v h k p. let e : v ≡ s = omega arith in none (subst P e p))

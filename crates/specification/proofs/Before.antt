@@ -30,7 +30,7 @@ use Rattle.specification.proofs.Meanings.{never-none, starts-zero, star
 use Rattle.specification.proofs.Optional.{none-never, zero-allowed, any-allowed}
 
 module _ {file : List ℕ} (four : countOf file ≡ kinds) where
-  pub formed : FourKinds file → WellFormed file
+  formed : FourKinds file → WellFormed file
   formed x = record {
     headed = record { few = x .few; marked = x .marked; count = omega (arith, four); enough = rw four (x .enough) };
     entries = record {
@@ -55,7 +55,7 @@ module _ {file : List ℕ} (four : countOf file ≡ kinds) where
     measured = x .measured;
   }
 
-  pub sized : FourSized file → Sized file
+  sized : FourSized file → Sized file
   sized x = record { ranges = x .ranges; states = x .states; texts = x .texts; bodies = λ k h l. absurd (omega (arith, four)) }
 
   four-sized : Sized file → FourSized file

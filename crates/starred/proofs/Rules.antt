@@ -2,7 +2,7 @@
 -- the moves and refusals 8 and 9.
 use mathlib.Core.Path.{_≡_, refl, sym, ap, ap₂, subst, subst₂, _∙_}
 use mathlib.Core.List.{List, [], _∷_}
-use mathlib.Core.Bool.{Bool, true, false, _&&_, cond}
+use mathlib.Core.Bool.{Bool, true, false, _&&_}
 use Prim.Native.Nat.{ℕ, _/_, _%_, _<_}
 use native.Mathlib.Omega.{arith}
 use lib.ListN.{getD}
@@ -18,7 +18,7 @@ use Rattle.machine.specs.Couples.{coupleAt, Couple}
 use Rattle.machine.specs.Moves.{tableMoves}
 use Rattle.machine.proofs.Couples.{couple-below}
 use Rattle.machine.proofs.Same.{Into}
-use Rattle.verdict.proofs.Tests.{true≢false, it-holds, it-fails, decides-map, decides-true, decides-equal, decides-below, decides-both, decides-is}
+use Rattle.verdict.proofs.Tests.{true≢false, it-holds, it-fails, decides-map, decides-true, decides-equal, decides-below, _also_, decides-is}
 use Rattle.machine.proofs.Tests.{every, decides-every}
 use Rattle.specification.specs.Records.{sizesOf, settings, couples, records}
 use Rattle.specification.specs.Rules.{textOf, conditions, conditionOf, ruleOf, leadsTo, Unreads, Fires, TwoRules, NoRule, Moves, MoveAt}
@@ -98,7 +98,7 @@ module _ (file : List ℕ) where
   module _ (trees : List (Tree condition)) where
     -- record r is a rule of s, and its tree holds at v
     abbrev pub firing : ℕ → ℕ → ℕ → Bool
-    firing s v r = cond (eqb (ruleOf file (sizesOf file) r) s) (holds v (treeOf trees r)) false
+    firing s v r = eqb (ruleOf file (sizesOf file) r) s && holds v (treeOf trees r)
 
     module _ (spelt : spelling trees ≡ true) where
       reads-as : (r : ℕ) → r < conditions (sizesOf file) → {w : List ℕ} → conditionOf file (sizesOf file) r ≡ w → Reads (sizesOf file .inputs) w
@@ -120,7 +120,7 @@ module _ (file : List ℕ) where
       decides-fires s v r h = decides-map
           (λ x. record { below = h; rule = x .0; holds = record { reads = reads r h; true-there = x .1 } })
           (λ x. (x .rule, ap (λ t. holds v t) (one-tree _ _ ((reads r h) .spelt ∙ sym (x .holds .reads .spelt))) ∙ x .holds .true-there))
-          (decides-both (decides-equal _ _) (decides-true (holds v (treeOf trees r))))
+          (decides-equal _ _ also decides-true (holds v (treeOf trees r)))
 
       pub fires : (s v r : ℕ) → r < records (sizesOf file) → firing s v r ≡ true → Fires file (sizesOf file) s v r
       fires s v r h = decides-fires s v r h .holds

@@ -2,13 +2,13 @@
 -- each by induction on the list.
 use mathlib.Core.Path.{_≡_, refl, sym, ap₂, _∙_}
 use mathlib.Core.List.{List, [], _∷_, _++_}
-use mathlib.Core.Bool.{Bool, true, false, cond}
+use mathlib.Core.Bool.{Bool, true, _&&_}
 use Prim.Native.Nat.{ℕ, _≤_, _<_}
 use lib.Dec.{leb}
 use native.Mathlib.Omega.{arith}
 use Rattle.verdict.specs.Checks.{Least, None, Check, check, Then, refused, next, Verdict, Passed, Unless, Short, Within, Judged}
 use Rattle.verdict.specs.declared.Answer.{Answer}
-use Rattle.verdict.proofs.Tests.{least-unique, decides-leb, decides-true, decides-both}
+use Rattle.verdict.proofs.Tests.{least-unique, decides-leb, decides-true, _also_}
 
 pub same-answer : (a b : Answer) → a .number ≡ b .number → a .place ≡ b .place → a ≡ b
 same-answer a b n p = ap₂ (λ (m q : ℕ). record { number = m; place = q }) n p
@@ -19,14 +19,14 @@ passed-unique a b p q = same-answer a b (p .number ∙ sym (q .number)) (p .plac
 -- each number is between two bounds: a test, which a list of checks passes by `refl`
 abbrev numbers : ℕ → ℕ → List Check → Bool
 numbers low high [] = true
-numbers low high (c ∷ cs) = cond (leb low (c .number)) (cond (leb (c .number) high) (numbers low high cs) false) false
+numbers low high (c ∷ cs) = leb low (c .number) && (leb (c .number) high && numbers low high cs)
 
 abbrev pub Numbered : ℕ → ℕ → List Check → Type 0
 Numbered low high cs = numbers low high cs ≡ true
 
 within : (low high : ℕ) (c : Check) (cs : List Check) → Numbered low high (c ∷ cs) → (low ≤ c .number) × ((c .number ≤ high) × Numbered low high cs)
 within low high c cs e =
-    decides-both (decides-leb low (c .number) (λ h. h) (λ h. h)) (decides-both (decides-leb (c .number) high (λ h. h) (λ h. h)) (decides-true (numbers low high cs))) .holds e
+    (decides-leb low (c .number) (λ h. h) (λ h. h) also (decides-leb (c .number) high (λ h. h) (λ h. h) also decides-true (numbers low high cs))) .holds e
 
 -- no check fails
 

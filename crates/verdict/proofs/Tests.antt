@@ -47,11 +47,7 @@ pub decides-not : {P : Type 0} {b : Bool} → Decides P b → Decides (P → ⊥
 decides-not {b = true} d = it-fails (λ n. n (d .holds refl))
 decides-not {b = false} d = it-holds (d .fails refl)
 
-pub decides-both : {P Q : Type 0} {a b : Bool} → Decides P a → Decides Q b → Decides (P × Q) (cond a b false)
-decides-both {a = true} d f = decides-map (λ q. (d .holds refl, q)) (λ x. x .1) f
-decides-both {a = false} d f = it-fails (λ x. d .fails refl (x .0))
-
--- the same, as one test also with the other
+-- two tests, one also with the other
 infixl 35 _also_
 pub _also_ : {a b : Bool} {P Q : Type 0} → Decides P a → Decides Q b → Decides (P × Q) (a && b)
 _also_ {a = true} d f = decides-map (λ q. (d .holds refl, q)) (λ x. x .1) f

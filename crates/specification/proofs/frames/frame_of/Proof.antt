@@ -14,7 +14,7 @@ returns : tie.Need-returns
 returns c =
     let z = c .before .before .before .before .args .z in
     let first : SetOf words (settings z) (λ v. v ≡ 0) (c .before .with .result) =
-    set-wide (set-in (set-none words 0 (λ v l. absurd (omega arith))) (omega arith) refl (c .before .with .ensures .0) (c .before .with .ensures .1)) (settings z) (pow-pos (z .inputs)) (λ v l e. omega arith) in
+    set-wide (set-in (set-none words 0 (λ v l. absurd (omega arith))) (omega arith) refl (c .before .with .ensures .0) (c .before .with .ensures .1)) (settings z) (pow-pos (z .inputs)) (λ v l _ e. omega arith) in
     record { inputs = refl; states = refl; initial = refl; never = never-set (c .before .before .set-in .ensures); starts = starts-set first (c .set-in2 .ensures) }
 
 pub frame-of-spec : {M : Type 1} → statement M
