@@ -7,6 +7,7 @@ mod lamps;
 mod limits;
 mod lines;
 mod log;
+mod optional;
 mod plans;
 mod ranks;
 mod records;
@@ -36,6 +37,7 @@ fn files() {
     conditions::parentheses();
     conditions::characters();
     lamps::rows();
+    optional::rows();
     limits::fewest();
     limits::most();
     limits::kinds();
