@@ -115,7 +115,7 @@ module _ (f : Frame) (never starts T : List ℕ) (same : SameBelow (f .inputs) (
     plan = written-map (shortened-same m to) (x .plan);
   }
 
-  -- two outcomes of a job, one with each set, are one
+  -- two outcomes of a job, one with each frame, are one
   pub mark-beyond : {R R₁ R₂ : List ℕ} {a b : Answer} → MarkedAs (machineOf f T) R a R₁ → MarkedAs (machineOf g T) R b R₂ → (a ≡ b) × (R₁ ≡ R₂)
   mark-beyond x y = mark-only (mark-carries x) y
 

@@ -71,7 +71,6 @@ laid file w s =
       formed = w;
       ranges = s .ranges;
       counted = refl;
-      ends = omega (arith, e .1, s .states, s .texts);
       texts = omega (arith, e .1, e .2, s .states, s .texts);
       few = w .headed .few;
     }

@@ -45,12 +45,11 @@ Wrong file z RecordCheck.the-variants.Beyond r = Beyond file z r
 Wrong file z RecordCheck.the-variants.Own r = Own file z r
 Wrong file z RecordCheck.the-variants.Twice r = Twice file z r
 
--- what a file that passes 1 and 2 has: the bodies beyond kind 4 begin where the texts end
+-- what a file that passes 1 and 2 has: the texts of its records lie in it
 pub record Laid (file : List ℕ) (z : Sizes) : Type 0 where
   pub formed : WellFormed file
   pub ranges : Ranges z
   pub counted : z .more ≡ countOf file - kinds
-  pub ends : textAt file z (records z) ≡ startOf file kinds
   pub texts : textAt file z (records z) ≤ length file
   pub few : length file ≤ mostBytes
 
