@@ -11,10 +11,9 @@ use lib.Dec.{eqb, ltb}
 use lib.Pow.{high, low}
 use Rattle.machine.specs.Limits.{unmarked}
 use Rattle.machine.specs.Runs.{Machine, size, couples, couple, Sound, Starts, Rank, RankOrUnmarked}
-use Rattle.machine.specs.Shortest.{Steps, Parent}
+use Rattle.machine.specs.inner.Trails.{Steps, Parent, Trail}
 use Rattle.machine.specs.inner.Model.{Listed}
 use Rattle.machine.proofs.Order.{below-or}
-use Rattle.machine.proofs.Trails.{Trail}
 use Rattle.machine.proofs.Shortest.{rank-has, trail-rank}
 use Rattle.machine.proofs.Exists.{marked-below, marked-rank, trail-below}
 use Rattle.machine.proofs.Small.{rank-unique, rank-small}

@@ -10,24 +10,25 @@ use lib.ListN.{length}
 use lib.Pow.{pow-pos, high}
 use lib.Arith.{digits-lt}
 use Rattle.machine.specs.Runs.{Machine, size, couples, couple, Sound, Starts, Marked, Rank}
-use Rattle.machine.specs.Shortest.{RunTo, Steps, Parent}
+use Rattle.machine.specs.Shortest.{RunTo}
+use Rattle.machine.specs.inner.Trails.{Steps, Parent, Trail}
 use Rattle.machine.proofs.Order.{below-or, equal-or}
 use Rattle.machine.proofs.Couples.{couple-setting, moves}
 use Rattle.verdict.proofs.Tests.{decides-or}
 use Rattle.machine.proofs.Tests.{decides-starts, decides-steps}
-use Rattle.machine.proofs.Trails.{Trail, along, trail-run}
+use Rattle.machine.proofs.Trails.{along}
 use Rattle.machine.proofs.Shortest.{some-trail, trail-rank, rank-trail, before-rank, Best, best-start, best-step, best-run}
 
 -- P holds or does not
-abbrev Or : Type 0 → Type 0
+abbrev pub Or : Type 0 → Type 0
 Or P = P ⊎ (P → ⊥)
 
-both : {P Q : Type 0} → Or P → Or Q → Or (P × Q)
+pub both : {P Q : Type 0} → Or P → Or Q → Or (P × Q)
 both (inl p) (inl q) = inl (p, q)
 both (inl p) (inr q) = inr (λ x. q (x .1))
 both (inr p) q = inr (λ x. p (x .0))
 
-by : {P Q : Type 0} → (P → Q) → (Q → P) → Or P → Or Q
+pub by : {P Q : Type 0} → (P → Q) → (Q → P) → Or P → Or Q
 by f g (inl p) = inl (f p)
 by f g (inr p) = inr (λ q. p (g q))
 
@@ -92,9 +93,6 @@ module _ {m : Machine} (ok : Sound m) where
       (λ f. let (qs, u, e) = f .found in (f .place, trail-rank ok qs u e (λ rs y. ⊎-elim (λ h. absurd (f .before _ h (rs, y, refl))) (λ h. h) (below-or (length rs) (f .place)))))
       (λ none. absurd (none (length ps) (le-refl _) (ps, t, refl)))
       (search-below (λ k. Hit k c) (λ k. hit-or k c) (suc (length ps)))
-
-  pub trail-marked : (c : ℕ) (ps : List ℕ) → Trail m c ps → (r : ℕ) × Rank m c r
-  trail-marked c ps t = marked-rank (along m ps c, trail-run c ps t .0)
 
   pub parent-exists : {r c : ℕ} → Rank m c (suc r) → (p : ℕ) × Parent m r c p
   parent-exists {r} {c} x =

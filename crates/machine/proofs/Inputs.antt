@@ -116,6 +116,10 @@ none-agree (suc n) v w e j l = ⊎-elim
     (λ h. absurd (omega (arith, rw (ne-eqb (input v n) (input w n) h) at e)))
     (equal-or (input v n) (input w n))
 
+-- settings that differ in no input are one
+pub none-differ : (n v w : ℕ) → v < 2 ^ n → w < 2 ^ n → differing n v w ≡ 0 → v ≡ w
+none-differ n v w h k e = sym (mod-eq-of-lt h) ∙ same-bits n v w (none-agree n v w e) ∙ mod-eq-of-lt k
+
 pub record OneDiffers (n v w : ℕ) : Type 0 where
   pub at : ℕ
   pub low : at < n

@@ -14,7 +14,6 @@ pub mod Exists
 pub mod Plans
 pub mod Stored
 pub mod Small
-pub mod Rounds
 pub mod Flips
 pub mod Faults
 pub mod Ruled

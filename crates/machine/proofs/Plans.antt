@@ -61,7 +61,7 @@ unfolding among
 among-or c [] = it-fails (λ i. i)
 among-or c (d ∷ ds) = decides-either (decides-equal c d) (among-or c ds)
 
-visited-or : (m : Machine) (c : ℕ) (plan : List (List ℕ)) → Decides (VisitedBy m c plan) (visited m c plan)
+pub visited-or : (m : Machine) (c : ℕ) (plan : List (List ℕ)) → Decides (VisitedBy m c plan) (visited m c plan)
 unfolding visited
 visited-or m c [] = it-fails (λ x. x .1)
 visited-or m c (vs ∷ plan) = decides-map to of (decides-either (among-or c (visits m vs)) (visited-or m c plan))

@@ -7,12 +7,13 @@ use native.Mathlib.Omega.{arith}
 use lib.ListN.{length}
 use Rattle.machine.specs.Lists.{AtMost}
 use Rattle.machine.specs.Runs.{Machine, size, Sound, Visitor, Rank}
-use Rattle.machine.specs.Shortest.{rests, RunTo, Steps, Parent}
+use Rattle.machine.specs.Shortest.{rests, RunTo}
+use Rattle.machine.specs.inner.Trails.{Steps, Parent, Trail}
 use Rattle.machine.specs.inner.Model.{followed}
 use Rattle.machine.proofs.Order.{equal-or}
-use Rattle.machine.proofs.Trails.{Trail, back, along, length-rests, length-back, back-rests, visited-trail, trail-run}
+use Rattle.machine.proofs.Trails.{back, along, length-rests, length-back, back-rests, visited-trail, trail-run}
 
-at-most-antisym : (xs ys : List ℕ) → AtMost xs ys → AtMost ys xs → xs ≡ ys
+pub at-most-antisym : (xs ys : List ℕ) → AtMost xs ys → AtMost ys xs → xs ≡ ys
 at-most-antisym [] [] f g = refl
 at-most-antisym [] (y ∷ ys) f g = absurd g
 at-most-antisym (x ∷ xs) [] f g = absurd f

@@ -11,7 +11,7 @@ use borrow.Author.Tests.{eq-eqb, ne-eqb}
 use Rattle.machine.specs.Runs.{Machine, couples, Sound, Rank}
 use Rattle.machine.specs.Shortest.{RunTo}
 use Rattle.machine.proofs.Order.{equal-or}
-use Rattle.machine.proofs.Trails.{Trail}
+use Rattle.machine.specs.inner.Trails.{Trail}
 use Rattle.machine.proofs.Shortest.{some-trail, rank-trail, before-rank}
 use Rattle.machine.proofs.Exists.{marked-below, marked-rank}
 

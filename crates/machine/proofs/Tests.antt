@@ -10,7 +10,7 @@ use lib.Pow.{pow-pos, high, low}
 use Rattle.verdict.specs.Checks.{Decides}
 use Rattle.verdict.proofs.Tests.{it-holds, decides-map, decides-equal, decides-below, decides-true, _also_, decides-either}
 use Rattle.machine.specs.Runs.{Machine, size, couple, move, Starts, Changes}
-use Rattle.machine.specs.Shortest.{Steps}
+use Rattle.machine.specs.inner.Trails.{Steps}
 use Rattle.machine.proofs.Order.{equal-or}
 use Rattle.machine.proofs.Trails.{stepped}
 

@@ -8,13 +8,9 @@ use native.Mathlib.Omega.{arith}
 use lib.ListN.{length}
 use Rattle.machine.specs.Lists.{In}
 use Rattle.machine.specs.Runs.{Machine, size, couple, move, Sound, Starts, Changes, Goes, Run, visitsFrom, visits, Visitor}
-use Rattle.machine.specs.Shortest.{restsFrom, rests, Steps}
+use Rattle.machine.specs.Shortest.{restsFrom, rests}
+use Rattle.machine.specs.inner.Trails.{Steps, Trail}
 use Rattle.machine.proofs.Couples.{couple-same, couple-setting, moves}
-
--- couple c is visited at the last step of a run whose resting couples before each change are the list, the last first
-abbrev pub Trail : Machine → ℕ → List ℕ → Type 0
-Trail m c [] = (v : ℕ) × Starts m v × (c ≡ couple m (m .initial) v)
-Trail m c (p ∷ ps) = Trail m p ps × Steps m p c
 
 abbrev pub lastOf : ℕ → List ℕ → ℕ
 lastOf v [] = v

@@ -5,7 +5,7 @@ use mathlib.Core.List.{List, [], _∷_}
 use mathlib.Core.Bool.{Bool, true, false, not, _&&_}
 use Prim.Native.Nat.{ℕ, suc, _*_, _%_, _^_, _≤_, _<_}
 use lib.ListN.{getD, length}
-use lib.Dec.{eqb}
+use lib.Dec.{eqb, ltb}
 use Rattle.sets.specs.Sets.{member}
 use Rattle.machine.specs.Limits.{unmarked}
 use Rattle.machine.specs.Lists.{In}
@@ -30,17 +30,26 @@ usable f v = not (member (f .never) v)
 abbrev pub startable : Frame → ℕ → Bool
 startable f v = member (f .starts) v && usable f v
 
--- the machine of a frame and a table: a run may start at an allowed start that is not ruled out, and each change is of exactly one
--- input, to a setting that is not
-abbrev pub machineOf : Frame → List ℕ → Machine
-machineOf f table = record {
+-- whether a change may alter so many inputs: exactly one; where several may change at once, at least one
+abbrev pub mayAlter : Bool → ℕ → Bool
+mayAlter false d = eqb d 1
+mayAlter true d = ltb 0 d
+
+-- the machine of a frame and a table, one input changing at a time or several at once: a run may start at an allowed start that is not
+-- ruled out, and each change is to a setting that is not
+abbrev pub machineBy : Bool → Frame → List ℕ → Machine
+machineBy several f table = record {
   inputs = f .inputs;
   states = f .states;
   initial = f .initial;
   table = table;
   mayStart = λ v. startable f v;
-  mayChange = λ v w. usable f w && eqb (differing (f .inputs) v w) 1;
+  mayChange = λ v w. usable f w && mayAlter several (differing (f .inputs) v w);
 }
+
+-- document 01's machine: each change is of exactly one input
+abbrev pub machineOf : Frame → List ℕ → Machine
+machineOf = machineBy false
 
 -- the machine of sizes and a table alone: a run may start at any setting, and each change is of exactly one input
 abbrev pub bareMachine : ℕ → ℕ → ℕ → List ℕ → Machine

@@ -1,4 +1,4 @@
 -- What proofs and private contracts cite, and no public promise.
 pub mod Flips
-pub mod Rounds
+pub mod Trails
 pub mod Model

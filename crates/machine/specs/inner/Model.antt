@@ -6,7 +6,7 @@ use lib.ListN.{getD}
 use lib.Dec.{eqb}
 use Rattle.machine.specs.Limits.{unmarked}
 use Rattle.machine.specs.Runs.{Machine, size, couples, visits, Rank, RankOrUnmarked}
-use Rattle.machine.specs.Shortest.{Parent}
+use Rattle.machine.specs.inner.Trails.{Parent}
 
 -- a list of ranks, 65,535 where a couple is not marked, and a list of parents
 pub record Listed (m : Machine) (ranks parents : List ℕ) : Type 0 where

@@ -1,0 +1,4 @@
+pub mod Several
+pub mod Lists
+pub mod Weights
+pub mod inner
