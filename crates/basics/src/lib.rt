@@ -15,6 +15,12 @@ pub fn long(x: u16) -> usize
     x as usize
 }
 
+pub fn large(x: u32) -> usize
+    ensures { λ r. ⌜ (r ≡ x) × (r < 2 ^ 32) ⌝ }
+{
+    x as usize
+}
+
 // The low byte.
 pub fn byte(x: usize) -> u8
     ensures { λ r. ⌜ r ≡ x % 2 ^ 8 ⌝ }

@@ -1,164 +1,184 @@
--- A level of the queue is a round: expanding the couples of rank k one after the other gives each couple without a rank that one of them
--- leads to rank k + 1 and the least of them as parent, whatever their order in the queue.
-use mathlib.Core.Path.{_≡_, refl, sym, ap, subst, subst₂, _∙_}
+-- The laws of marking in the order of weights: after all weights up to k, one round of a weight that no change comes below gives all
+-- weights up to that one, since a couple of that weight has a parent of a smaller one; where no change is left, all weights are there.
+use mathlib.Core.Path.{_≡_, refl, sym, subst, _∙_}
 use mathlib.Core.Logic.{_⊎_, ⊎-elim, inl, inr}
-use mathlib.Core.List.{List}
-use Prim.Native.Nat.{ℕ, suc, _+_, _/_, _≤_, _<_, zero-le}
-use native.Mathlib.Nat.{le-refl, lt-of-lt-of-le}
-use native.Mathlib.Numerals.{add-one}
+use mathlib.Core.List.{List, [], _∷_}
+use mathlib.Core.Bool.{Bool, true, false}
+use Prim.Native.Nat.{ℕ, zero, suc, _+_, _*_, _-_, _%_, _≤_, _<_, zero-le}
+use native.Mathlib.Nat.{le-refl}
 use native.Mathlib.Omega.{arith}
-use lib.ListN.{getD, length}
-use lib.Pow.{high}
-use Rattle.machine.specs.Limits.{mostCouples, unmarked}
-use Rattle.machine.specs.Runs.{Machine, size, couples, Sound}
-use Rattle.machine.specs.Shortest.{Steps}
-use Rattle.machine.specs.inner.Model.{Listed}
-use Rattle.machine.specs.inner.Rounds.{Begins, Turned, Round, Ranked}
-use Rattle.machine.specs.inner.Rounds.Turned.{kept, found, none}
-use Rattle.machine.specs.inner.Rounds.Ranked.{ranked, unranked}
-use Rattle.machine.proofs.Order.{equal-or}
-use Rattle.machine.proofs.Small.{pigeons}
-use Rattle.machine.proofs.Tests.{whole}
-use Rattle.machine.proofs.Flips.{Single, flip-steps, steps-flip}
-use Rattle.machine.proofs.Rounds.{level-start, level-next, level-last}
-use Rattle.marking.specs.inner.Queue.{Offer, Room, Fresh, Pushed, ByRest, Expanded, Between, Spreads, ByStarts, Ready, Levels}
-use Rattle.marking.specs.inner.Queue.Offer.{given, lower, same}
-use Rattle.marking.specs.inner.Queue.Expanded.{had, got, left}
+use lib.ListN.{getD}
+use lib.Dec.{eqb}
+use Rattle.machine.specs.Couples.{differing, oneUnless}
+use Rattle.machine.specs.Runs.{Machine, size, couples, Sound, Marked}
+use Rattle.machine.specs.inner.Trails.{Steps, Trail}
+use Rattle.machine.proofs.Order.{below-or, equal-or}
+use Rattle.machine.proofs.Exists.{trail-below}
+use Rattle.several.specs.Weights.{extra, unweighed}
+use Rattle.several.specs.inner.Lightest.{step, weight, Lightest, Before, Parent, Complete}
+use Rattle.marking.specs.inner.Levels.{Source, Turned, Round, Leveled, Level, Started, NoneBelow, Heads}
+use Rattle.marking.specs.inner.Levels.Turned.{kept, found, left}
+use Rattle.marking.specs.inner.Levels.Leveled.{within, beyond}
+use Rattle.several.proofs.Along.{some-trail}
+use Rattle.several.proofs.Weights.{lightest-unique, lightest-exists, parent-exists}
 
-pub room-full : {R P Q : List ℕ} {tail : ℕ} → Room R P Q tail → tail ≤ length R
-room-full {R} {P} {Q} {tail} x = pigeons (length R) tail (λ i. getD Q i 0) (x .low) (x .once)
+module _ {m : Machine} (ok : Sound m) where
+  lightest-below : {c r : ℕ} → Lightest m extra c r → c < couples m
+  lightest-below x = trail-below ok _ (x .path) (x .trail)
 
-module _ {Leads : ℕ → ℕ → Type 0} {k : ℕ} {R P : List ℕ} where
-  expanded-none : {S : ℕ → Type 0} {c : ℕ} → ((q : ℕ) → S q → ⊥) → Expanded Leads S k R P R P c
-  expanded-none {c = c} n = ⊎-elim (λ e. left e (λ q s. absurd (n q s)) e refl) (λ e. had e refl refl) (equal-or (getD R c 0) unmarked)
-
-  expanded-as : {S U : ℕ → Type 0} {R′ P′ : List ℕ} {c : ℕ} → ((q : ℕ) → S q → U q) → ((q : ℕ) → U q → S q) → Expanded Leads S k R P R′ P′ c → Expanded Leads U k R P R′ P′ c
-  expanded-as to of (had ne e f) = had ne e f
-  expanded-as to of (got g s x l e) = got g (to _ s) x (λ q u. l q (of q u)) e
-  expanded-as to of (left g never e f) = left g (λ q u. never q (of q u)) e f
-
-  expanded-more : {S : ℕ → Type 0} {R′ P′ R″ P″ : List ℕ} {c p : ℕ} → suc k < unmarked → (getD R c 0 ≡ suc k → ⊥)
-      → Expanded Leads S k R P R′ P′ c → Offer (Leads p) (suc k) p R′ P′ R″ P″ c → Expanded Leads (λ q. S q ⊎ (q ≡ p)) k R P R″ P″ c
-  expanded-more h n (had ne e f) (given b i j o) = absurd (ne (sym e ∙ i))
-  expanded-more h n (had ne e f) (lower b i l j o) = absurd (n (sym e ∙ i))
-  expanded-more h n (had ne e f) (same u v j o) = had ne (j ∙ e) (o ∙ f)
-  expanded-more h n (got g s x l e) (given b i j o) = absurd (omega arith)
-  expanded-more {c = c} h n (got g s x l e) (lower b i y j o) =
-      got g (inr o) (subst (λ (q : ℕ). Leads q c) (sym o) b) (λ q w z. ⊎-elim (λ a. omega (arith, l q a z)) (λ a. omega arith) w) j
-  expanded-more {S} {c = c} {p} h n (got g s x l e) (same u v j o) =
-      got g (inl (subst S (sym o) s)) (subst (λ (q : ℕ). Leads q c) (sym o) x)
-      (λ q w z. ⊎-elim (λ a. omega (arith, l q a z)) (λ a. omega (arith, v (subst (λ (y : ℕ). Leads y c) a z) e)) w) (j ∙ e)
-  expanded-more {c = c} h n (left g never e f) (given b i j o) =
-      got g (inr o) (subst (λ (q : ℕ). Leads q c) (sym o) b) (λ q w z. ⊎-elim (λ a. absurd (never q a z)) (λ a. omega arith) w) j
-  expanded-more h n (left g never e f) (lower b i l j o) = absurd (omega arith)
-  expanded-more {c = c} h n (left g never e f) (same u v j o) =
-      left g (λ q w z. ⊎-elim (λ a. never q a z) (λ a. u (subst (λ (y : ℕ). Leads y c) a z) e) w) (j ∙ e) (o ∙ f)
-
-module _ {Leads : ℕ → ℕ → Type 0} {k a e : ℕ} {R P Q : List ℕ} where
-  pub spreads-none : Room R P Q e → ((c : ℕ) → c < length R → getD R c 0 ≡ suc k → ⊥) → Spreads Leads k a e a R P Q R P Q e
-  spreads-none x n = record {
-    room = x;
-    same-length = refl;
-    fresh = record { from = le-refl e; new = λ i l h. absurd (omega arith); all = λ c l f. absurd (n c l f) };
-    kept = λ i l. refl;
-    expanded = λ c l. expanded-none (λ q (j, u, v, w). omega arith);
-  }
-
-  pub spreads-more : {h tail tail′ : ℕ} {R′ P′ Q′ R″ P″ Q″ : List ℕ} → suc k < unmarked → ((c : ℕ) → c < length R → getD R c 0 ≡ suc k → ⊥) → a ≤ h → h < e
-      → Spreads Leads k a e h R P Q R′ P′ Q′ tail → Pushed (Leads (getD Q′ h 0)) (suc k) (getD Q′ h 0) R′ P′ Q′ tail R″ P″ Q″ tail′ → Spreads Leads k a e (h + 1) R P Q R″ P″ Q″ tail′
-  spreads-more {h} {R′ = R′} {P′} {Q′} {R″} {P″} s n b l x y = record {
-    room = y .room;
-    same-length = y .same-length ∙ x .same-length;
-    fresh = y .fresh e (x .fresh);
-    kept = λ i o. y .kept i (lt-of-lt-of-le o (x .fresh .from)) ∙ x .kept i o;
-    expanded = λ c o. expanded-as to of (expanded-more s (n c o) (x .expanded c o) (subst (λ (p : ℕ). Offer (Leads p) (suc k) p R′ P′ R″ P″ c) (x .kept h l) (y .offer c)));
-  }
-    where
-      to : (q : ℕ) → Between Q a h q ⊎ (q ≡ getD Q h 0) → Between Q a (h + 1) q
-      to q (inl (j, u, v, w)) = (j, u, omega arith, w)
-      to q (inr f) = (h, b, omega arith, sym f)
-
-      of : (q : ℕ) → Between Q a (h + 1) q → Between Q a h q ⊎ (q ≡ getD Q h 0)
-      of q (j, u, v, w) = ⊎-elim (λ f. inr (sym w ∙ ap (λ (i : ℕ). getD Q i 0) f)) (λ (f : j ≡ h → ⊥). inl (j, u, omega arith, w)) (equal-or j h)
-
-  -- the head of the queue
-  pub spreads-head : {h tail : ℕ} {R′ P′ Q′ : List ℕ} → Spreads Leads k a e h R P Q R′ P′ Q′ tail → h < e → (h < length Q′) × (h < mostCouples)
-  spreads-head x l = let f = room-full (x .room) in
-      (omega (arith, x .fresh .from, x .room .long), omega (arith, x .fresh .from, x .room .few))
-
-  -- the whole level
-  pub spreads-round : {m : Machine} {tail : ℕ} {R′ P′ Q′ : List ℕ} → ((p c : ℕ) → Leads p c → Steps m p c) → ((p c : ℕ) → Steps m p c → Leads p c) → length R ≡ couples m
-      → Room R P Q e → Fresh k a R Q e → Spreads Leads k a e e R P Q R′ P′ Q′ tail → Round m k R P R′ P′
-  spreads-round {m} {R′ = R′} {P′} to of t x f y c l = go (y .expanded c (rw t l))
-    where
-      go : Expanded Leads (Between Q a e) k R P R′ P′ c → Turned m k (couples m) R P R′ P′ c
-      go (had ne i j) = kept ne i j
-      go (got g (j, u, v, w) s o i) = found g (record {
-        below = subst₂ _<_ w t (x .low j v);
-        steps = to _ c s;
-        ranked = ap (λ (q : ℕ). getD R q 0) (sym w) ∙ f .new j u v;
-        least = λ q b z r. o q (f .all q (rw t b) r) (of q c z);
-      }) i
-      go (left g never i o) = none g (λ q b z r. never q (f .all q (rw t b) r) (of q c z)) i
-
-module _ {m : Machine} where
-  by-steps : (p c : ℕ) → ByRest m (size m) p c → Steps m p c
-  by-steps p c (e, (j, l, (a, x))) = flip-steps p c j (ap (λ (y : ℕ). getD (m .table) y 0) (sym (whole m p)) ∙ e) l (record { allowed = a; visits = x })
-
-  steps-by : Single m → (p c : ℕ) → Steps m p c → ByRest m (size m) p c
-  steps-by single p c x =
-      let (j, l, y) = steps-flip single p c x in
-      (ap (λ (y : ℕ). getD (m .table) y 0) (x .here) ∙ x .rests ∙ sym (ap (λ (y : ℕ). y / size m) (x .here) ∙ high (x .state) (m .inputs) (x .below)), (j, l, (y .allowed, y .visits)))
-
-  module _ (ok : Sound m) {k a tail : ℕ} {R P Q : List ℕ} (x : Levels m k a R P Q tail) where
-    few : couples m ≤ unmarked
-    few = omega (arith, x .total, x .room .few)
-
-    pub levels-small : a < tail → suc k < unmarked
-    levels-small l = omega (arith, room-full (x .room), x .deep, x .room .few)
-
-    pub levels-free : a < tail → (c : ℕ) → c < length R → getD R c 0 ≡ suc k → ⊥
-    levels-free h c l e = go (x .level c (rw (← x .total) l))
+  module _ (k : ℕ) (R P : List ℕ) (level : Level m k R P) (small : k < unweighed) where
+    -- a weight up to k stands in the list
+    listed : (c r : ℕ) → Lightest m extra c r → r ≤ k → getD R c 0 ≡ r
+    listed c r x l = go (level c (lightest-below x))
       where
-        go : Ranked m k R P c → ⊥
-        go (ranked y b p) = omega arith
-        go (unranked f y) = omega (arith, levels-small h)
+        go : Leveled m k R P c → getD R c 0 ≡ r
+        go (within y h p) = lightest-unique m extra y x
+        go (beyond e n) = absurd (omega (arith, n r x))
 
-    pub levels-next : Single m → {tail′ : ℕ} {R′ P′ Q′ : List ℕ} → a < tail → Spreads (ByRest m (size m)) k a tail tail R P Q R′ P′ Q′ tail′ → Levels m (k + 1) tail R′ P′ Q′ tail′
-    levels-next single {tail′} {R′} {P′} {Q′} h y = record {
-      level = rw (add-one k) (level-next ok k R P (x .level) few (omega (arith, levels-small h)) R′ P′ (spreads-round by-steps (steps-by single) (x .total) (x .room) (x .fresh) y));
-      room = y .room;
-      fresh = rw (add-one k) (y .fresh);
-      deep = omega (arith, x .deep);
-      total = y .same-length ∙ x .total;
-      orphan = λ c l. orphan c (rw (y .same-length) at l) (y .expanded c (rw (y .same-length) at l));
-    }
+    -- and what stands there is one
+    pub listed-is : (c : ℕ) → c < couples m → (getD R c 0 ≡ unweighed → ⊥) → Lightest m extra c (getD R c 0) × (getD R c 0 ≤ k)
+    listed-is c l n = go (level c l)
       where
-        orphan : (c : ℕ) → c < length R → Expanded (ByRest m (size m)) (Between Q a tail) k R P R′ P′ c → (getD R′ c 0 ≡ 0) ⊎ (getD R′ c 0 ≡ unmarked) → getD P′ c 0 ≡ 0
-        orphan c l (had ne e f) w = f ∙ x .orphan c l (⊎-elim (λ z. inl (sym e ∙ z)) (λ z. inr (sym e ∙ z)) w)
-        orphan c l (got g s v o e) w = absurd (⊎-elim (λ (z : getD R′ c 0 ≡ 0). omega arith) (λ (z : getD R′ c 0 ≡ unmarked). omega (arith, levels-small h)) w)
-        orphan c l (left g never e f) w = f ∙ x .orphan c l (inr g)
+        go : Leveled m k R P c → Lightest m extra c (getD R c 0) × (getD R c 0 ≤ k)
+        go (within y h p) = (y, h)
+        go (beyond e _) = absurd (n e)
 
-    pub levels-last : tail ≤ a → Listed m R P
-    levels-last h = level-last ok k R P (x .level) few (λ c l e. let (j, u, v, w) = x .fresh .all c (rw (x .total) l) e in omega arith)
+    heavy : (c r : ℕ) → Lightest m extra c r → k < r → getD R c 0 ≡ unweighed
+    heavy c r x l = go (level c (lightest-below x))
+      where
+        go : Leveled m k R P c → getD R c 0 ≡ unweighed
+        go (within y h p) = absurd (omega (arith, lightest-unique m extra y x))
+        go (beyond e n) = e
 
-  -- the starts
-  pub levels-start : {R₀ P₀ Q₀ R P Q : List ℕ} {tail : ℕ} → Ready m R₀ P₀ → Pushed (ByStarts m (size m) (size m)) 0 0 R₀ P₀ Q₀ 0 R P Q tail → Levels m 0 0 R P Q tail
-  levels-start {R₀} {P₀} {Q₀} {R} {P} y x = record {
-    level = level-start (y .checked .sound) R P (λ c l. started c l (x .offer c));
-    room = x .room;
-    fresh = x .fresh 0 (record { from = zero-le; new = λ j u v. absurd (omega arith); all = λ c l e. absurd (omega (arith, y .ranks-blank c (rw (← y .exact .ranks-are) l))) });
-    deep = zero-le;
-    total = x .same-length ∙ y .exact .ranks-are;
-    orphan = λ c l w. orphan c (rw (← y .exact .ranks-are) (rw (x .same-length) at l)) (x .offer c);
-  }
+    -- a couple with a trail of weight up to k has a weight
+    has-weight : (c : ℕ) (ps : List ℕ) → Trail m c ps → weight m extra c ps ≤ k → getD R c 0 ≡ unweighed → ⊥
+    has-weight c ps t l e =
+        let (r, x) = lightest-exists m extra ok c ps t in
+        omega (arith, listed c r x (omega (arith, x .fewest ps t)), x .fewest ps t)
+
+    module _ (k′ : ℕ) (bound : NoneBelow m k′ R) where
+      -- no couple weighs more than k and less than the next weight
+      gap-below : (f c r : ℕ) → r < f → Lightest m extra c r → k < r → k′ ≤ r
+      gap-below zero c r l x h = absurd (omega arith)
+      gap-below (suc f) c zero l x h = absurd (omega arith)
+      gap-below (suc f) c (suc r) l x h =
+          let (p, y) = parent-exists m extra ok x in
+          let z = y .before in
+          ⊎-elim
+          (λ g. omega (arith, gap-below f p (z .earlier) (omega (arith, z .sum)) (z .lightest) g, z .sum))
+          (λ g. let e = listed p (z .earlier) (z .lightest) g in
+          omega (arith, bound p c (lightest-below (z .lightest)) (lightest-below x) (λ q. omega arith) (z .steps) (heavy c (suc r) x h), z .sum))
+          (below-or k (z .earlier))
+
+      gap : (c r : ℕ) → Lightest m extra c r → k < r → k′ ≤ r
+      gap c r x h = gap-below (suc r) c r (le-refl _) x h
+
+      -- the couple before a change to weight k′ is listed
+      source-of : {c p : ℕ} → Before m extra k′ c p → Source m R k′ c p
+      source-of {c} {p} z = ⊎-elim
+          (λ g. absurd (omega (arith, gap p (z .earlier) (z .lightest) g, z .sum)))
+          (λ g. let e = listed p (z .earlier) (z .lightest) g in
+          record { below = lightest-below (z .lightest); steps = z .steps; sum = omega (arith, z .sum) })
+          (below-or k (z .earlier))
+
+      before-of : {c p : ℕ} → k′ < unweighed → Source m R k′ c p → Before m extra k′ c p
+      before-of {c} {p} h s = record { steps = s .steps; earlier = getD R p 0; sum = s .sum; lightest = listed-is p (s .below) (λ e. omega (arith, s .sum)) .0 }
+
+      pub level-next : k < k′ → k′ < unweighed → (R′ P′ : List ℕ) → Round m k′ R P R′ P′ → Level m k′ R′ P′
+      level-next more h R′ P′ round c l = go (round c l) (level c l)
+        where
+          go : Turned m k′ R P R′ P′ c → Leveled m k R P c → Leveled m k′ R′ P′ c
+          go (kept ne e f) (within y i p) = within (subst (Lightest m extra c) (sym e) y) (omega arith) (λ j q. subst (Parent m extra (suc j) c) (sym f) (p j (sym e ∙ q)))
+          go (kept ne e f) (beyond g n) = absurd (ne g)
+          go (found g s least e) (within y i p) = absurd (omega arith)
+          go (found g s least e) (beyond _ n) =
+              let b = before-of h s in
+              let x = b .lightest in
+              let z : Lightest m extra c k′ = record {
+                path = getD P′ c 0 ∷ x .path;
+                trail = (x .trail, b .steps);
+                weighs = omega (arith, x .weighs, b .sum);
+                fewest = λ qs u. let (r, w) = lightest-exists m extra ok c qs u in omega (arith, gap c r w (n r w), w .fewest qs u);
+              } in
+              within (subst (Lightest m extra c) (sym e) z) (omega arith) (λ j q. let i : k′ ≡ suc j = sym e ∙ q in
+              subst (λ (d : ℕ). Parent m extra d c (getD P′ c 0)) i (record { before = b; least = λ q w. least q (source-of w) }))
+          go (left g never e) (within y i p) = absurd (omega arith)
+          go (left g never e) (beyond _ n) = beyond e (λ r x. ⊎-elim
+              (λ (q : r ≡ k′). absurd (not-next (subst (Lightest m extra c) q x)))
+              (λ (q : r ≡ k′ → ⊥). omega (arith, gap c r x (n r x)))
+              (equal-or r k′))
+            where
+              not-next : Lightest m extra c k′ → ⊥
+              not-next x =
+                  let e : k′ ≡ suc (k′ - 1) = omega arith in
+                  let (p, y) = parent-exists m extra ok (subst (Lightest m extra c) e x) in
+                  never p (source-of (subst (λ (d : ℕ). Before m extra d c p) (sym e) (y .before)))
+
+    -- where every change from a couple with a weight leads to one with a weight, the lists are complete
+    pub level-last : ((p c : ℕ) → p < couples m → c < couples m → (getD R p 0 ≡ unweighed → ⊥) → Steps m p c → getD R c 0 ≡ unweighed → ⊥) → Complete m extra unweighed R P
+    level-last closed = record { weight = λ c l. whole c l (level c l); parent = λ j c x. parent j c x (level c (lightest-below x)) }
+      where
+        seen : (c : ℕ) (ps : List ℕ) → Trail m c ps → getD R c 0 ≡ unweighed → ⊥
+        seen c [] t = has-weight c [] t zero-le
+        seen c (p ∷ ps) t = closed p c (trail-below ok p ps (t .0)) (trail-below ok c (p ∷ ps) t) (seen p ps (t .0)) (t .1)
+
+        whole : (c : ℕ) → c < couples m → Leveled m k R P c → (Lightest m extra c (getD R c 0) × (getD R c 0 < unweighed)) ⊎ ((getD R c 0 ≡ unweighed) × (Marked m c → ⊥))
+        whole c l (within y i p) = inl (y, omega arith)
+        whole c l (beyond e n) = inr (e, λ x. let (ps, t, _, _) = some-trail ok c (x .0) (x .1) in seen c ps t e)
+
+        parent : (j c : ℕ) → Lightest m extra c (suc j) → Leveled m k R P c → Parent m extra (suc j) c (getD P c 0)
+        parent j c x (within y i p) = p j (lightest-unique m extra y x)
+        parent j c x (beyond e n) = absurd (seen c (x .path) (x .trail) e)
+
+    -- the two heads of the queue tell the next weight
+    module _ {Q : List ℕ} {a b tail : ℕ} (heads : Heads m k R Q a b tail) where
+      either : (p c : ℕ) → (step m extra p c ≡ 1) ⊎ (step m extra p c ≡ suc extra)
+      either p c = go (eqb (differing (m .inputs) (p % size m) (c % size m)) 1)
+        where
+          go : (t : Bool) → (suc (oneUnless t * extra) ≡ 1) ⊎ (suc (oneUnless t * extra) ≡ suc extra)
+          go true = inl (omega arith)
+          go false = inr (omega arith)
+
+      -- a change that weighs d from a couple without a successor of that weight
+      unhad : (p c d : ℕ) → p < couples m → (getD R p 0 ≡ unweighed → ⊥) → Steps m p c → getD R c 0 ≡ unweighed → step m extra p c ≡ d → k < getD R p 0 + d
+      unhad p c d l n s e f = ⊎-elim (λ h. h)
+          (λ h. let (x, _) = listed-is p l n in absurd (has-weight c (p ∷ x .path) (x .trail, s) (omega (arith, x .weighs)) e))
+          (below-or k (getD R p 0 + d))
+
+      pub heads-next : (k′ : ℕ) → (a < tail → k′ ≤ suc (getD R (getD Q a 0) 0)) → (b < tail → k′ ≤ suc (getD R (getD Q b 0) 0 + extra)) → NoneBelow m k′ R
+      heads-next k′ one many p c l _ n s e =
+          let (i, h, q) = heads .all p l n in
+          ⊎-elim
+          (λ f. let u = unhad p c 1 l n s e f in
+          ⊎-elim
+          (λ g. absurd (omega (arith, at i q (λ x. x < k) (heads .single-had i g h))))
+          (λ g. omega (arith, one (omega arith), at i q (λ x. getD R (getD Q a 0) 0 ≤ x) (heads .sorted a i g h)))
+          (below-or i a))
+          (λ f. let u = unhad p c (suc extra) l n s e f in
+          ⊎-elim
+          (λ g. absurd (omega (arith, at i q (λ x. x + extra < k) (heads .multiple-had i g h))))
+          (λ g. omega (arith, many (omega arith), at i q (λ x. getD R (getD Q b 0) 0 ≤ x) (heads .sorted b i g h)))
+          (below-or i b))
+          (either p c)
+        where
+          at : (i : ℕ) → getD Q i 0 ≡ p → (F : ℕ → Type 0) → F (getD R (getD Q i 0) 0) → F (getD R p 0)
+          at i q F x = subst (λ (d : ℕ). F (getD R d 0)) q x
+
+      -- where the first head is at the end, and the second too if any change is multiple, the lists are complete
+      pub heads-last : tail ≤ a → ((p c : ℕ) → Steps m p c → step m extra p c ≡ suc extra → tail ≤ b) → Complete m extra unweighed R P
+      heads-last h g = level-last (λ p c l _ n s e.
+          let (i, j, q) = heads .all p l n in
+          ⊎-elim
+          (λ f. omega (arith, unhad p c 1 l n s e f, subst (λ (d : ℕ). getD R d 0 < k) q (heads .single-had i (omega arith) j)))
+          (λ f. omega (arith, unhad p c (suc extra) l n s e f, subst (λ (d : ℕ). getD R d 0 + extra < k) q (heads .multiple-had i (omega (arith, g p c s f)) j)))
+          (either p c))
+
+  pub level-start : (R P : List ℕ) → Started m R → Level m 0 R P
+  level-start R P s c l = ⊎-elim
+      (λ x. within (subst (Lightest m extra c) (sym (x .1)) (record { path = []; trail = x .0; weighs = refl; fewest = λ qs u. zero-le })) (omega (arith, x .1)) (λ j q. absurd (omega (arith, x .1))))
+      (λ x. beyond (x .1) (λ r y. ⊎-elim (λ e. absurd (x .0 (begins (y .path) (y .trail) (y .weighs ∙ e)))) (λ (e : r ≡ 0 → ⊥). omega arith) (equal-or r 0)))
+      (s c l)
     where
-      started : (c : ℕ) → c < couples m → Offer (ByStarts m (size m) (size m)) 0 0 R₀ P₀ R P c → (Begins m c × (getD R c 0 ≡ 0)) ⊎ ((Begins m c → ⊥) × (getD R c 0 ≡ unmarked))
-      started c l (given (v, h, (s, e)) f g o) = inl ((v, s, e), g)
-      started c l (lower b f o g u) = absurd (omega (arith, y .ranks-blank c l))
-      started c l (same u v g o) = inr (λ (w, s, e). u (w, s .below, (s, e)) (y .ranks-blank c l), g ∙ y .ranks-blank c l)
-
-      orphan : (c : ℕ) → c < couples m → Offer (ByStarts m (size m) (size m)) 0 0 R₀ P₀ R P c → getD P c 0 ≡ 0
-      orphan c l (given b f g o) = o
-      orphan c l (lower b f o g u) = u
-      orphan c l (same u v g o) = o ∙ y .parents-blank c l
+      begins : (ps : List ℕ) → Trail m c ps → weight m extra c ps ≡ 0 → Trail m c []
+      begins [] t e = t
+      begins (p ∷ ps) t e = absurd (omega arith)

@@ -1,8 +1,13 @@
-pub mod Checks
 pub mod Parts
-pub mod Outcomes
 pub mod Pushing
-pub mod Expanding
+pub mod Spreading
 pub mod Levels
+pub mod Turning
+pub mod Expanding
+pub mod Heads
+pub mod Progress
 pub mod Filling
+pub mod Halves
+pub mod Checks
+pub mod Outcomes
 pub mod Once

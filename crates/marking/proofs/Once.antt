@@ -1,17 +1,20 @@
 -- Each promise of this crate leaves one outcome: the checks have one verdict, and by its number each buffer is one, since a couple has
--- one rank or is not marked, and one parent where its rank is above 0.
-use mathlib.Core.Path.{_≡_, sym, subst, _∙_}
-use mathlib.Core.Logic.{inl, inr}
+-- one rank or is not marked, and one run to it or none.
+use mathlib.Core.Path.{_≡_, refl, sym, ap, subst, _∙_}
+use mathlib.Core.Logic.{_⊎_, inl, inr}
 use mathlib.Core.List.{List}
-use Prim.Native.Nat.{ℕ, zero, suc}
+use Prim.Native.Nat.{ℕ, _+_, _*_, _≤_}
 use native.Mathlib.Omega.{arith}
-use lib.ListN.{getD}
+use lib.ListN.{length, getD}
 use Rattle.verdict.specs.declared.Answer.{Answer}
 use Rattle.verdict.proofs.Fills.{left-unique}
-use Rattle.verdict.proofs.Order.{judged-unique}
-use Rattle.machine.specs.Runs.{Machine, Rank, RankOrUnmarked}
-use Rattle.machine.specs.Shortest.{Parent, ParentOrNone}
+use Rattle.verdict.proofs.Order.{judged-passes, judged-number, judged-unique}
+use Rattle.machine.specs.Runs.{Machine, Sound, RankOrUnmarked}
 use Rattle.machine.proofs.Small.{rank-unique}
+use Rattle.several.specs.Several.{multiples}
+use Rattle.several.specs.Weights.{extra, WeightOrNone, ParentOrNone}
+use Rattle.several.proofs.Runs.{multi-unique}
+use Rattle.marking.proofs.Checks.{parents-checked}
 use Rattle.marking.specs.Marking.{MarkedAs, ParentedAs}
 
 module _ {m : Machine} {c : ℕ} where
@@ -22,14 +25,19 @@ module _ {m : Machine} {c : ℕ} where
   rank-only x y (inr (e, n)) (inl (l, q)) = absurd (n (q .some, q .visitor))
   rank-only x y (inr (e, n)) (inr (f, o)) = e ∙ sym f
 
-  parent-unique : {r p q : ℕ} → Parent m r c p → Parent m r c q → p ≡ q
-  parent-unique {r} {p} {q} x y = omega (arith, x .least q (y .steps) (y .rank), y .least p (x .steps) (x .rank))
+  -- and so is what a list of weights holds
+  pub weight-only : Sound m → (x y : ℕ) → WeightOrNone m c x → WeightOrNone m c y → x ≡ y
+  weight-only ok x y (inl (vs, r, e)) (inl (ws, q, f)) =
+      let g = multi-unique ok c vs ws r q in
+      omega (arith, ap (λ (us : List ℕ). multiples m us * extra + length us) g)
+  weight-only ok x y (inl (vs, r, e)) (inr (f, n)) = absurd (n (vs, r .visitor))
+  weight-only ok x y (inr (e, n)) (inl (vs, r, f)) = absurd (n (vs, r .visitor))
+  weight-only ok x y (inr (e, n)) (inr (f, o)) = e ∙ sym f
 
-  -- and so is what a parent buffer holds
-  pub parent-only : (x p q : ℕ) → RankOrUnmarked m c x → ParentOrNone m c p → ParentOrNone m c q → p ≡ q
-  parent-only (suc r) p q (inl (h, k)) x y = parent-unique (x .parent r k) (y .parent r k)
-  parent-only zero p q (inl (h, k)) x y = let n : (r : ℕ) → Rank m c (suc r) → ⊥ = λ r l. omega (arith, rank-unique k l) in x .none n ∙ sym (y .none n)
-  parent-only z p q (inr (e, o)) x y = let n : (r : ℕ) → Rank m c (suc r) → ⊥ = λ r l. o (l .some, l .visitor) in x .none n ∙ sym (y .none n)
+  -- and what a list of parents holds
+  pub parent-only : (x p q : ℕ) → WeightOrNone m c x → ParentOrNone m c p → ParentOrNone m c q → p ≡ q
+  parent-only x p q (inl (vs, r, e)) y z = y .parent vs r ∙ sym (z .parent vs r)
+  parent-only x p q (inr (e, n)) y z = y .none n ∙ sym (z .none n)
 
 module _ {m : Machine} where
   pub mark-only : {R R₁ R₂ : List ℕ} {a b : Answer} → MarkedAs m R a R₁ → MarkedAs m R b R₂ → (a ≡ b) × (R₁ ≡ R₂)
@@ -37,11 +45,17 @@ module _ {m : Machine} where
       let e = judged-unique (x .verdict) (y .verdict) in
       (e, left-unique (λ _ c p q _. rank-only p q) (x .ranks) (subst (λ (w : Answer). MarkedAs m R w R₂) (sym e) y .ranks))
 
-  pub mark-parents-only : {R P R₁ P₁ R₂ P₂ : List ℕ} {a b : Answer} → ParentedAs m R P a R₁ P₁ → ParentedAs m R P b R₂ P₂ → (a ≡ b) × (R₁ ≡ R₂) × (P₁ ≡ P₂)
-  mark-parents-only {R} {P} {R₁} {P₁} {R₂} {P₂} {a} {b} x y =
+  pub mark-parents-only : {R W P R₁ W₁ P₁ R₂ W₂ P₂ : List ℕ} {a b : Answer} → ParentedAs m R W P a R₁ W₁ P₁ → ParentedAs m R W P b R₂ W₂ P₂
+      → (a ≡ b) × (R₁ ≡ R₂) × (W₁ ≡ W₂) × (P₁ ≡ P₂)
+  mark-parents-only {R} {W} {P} {W₁ = W₁} {R₂ = R₂} {W₂} {P₂} {a} x y =
       let e = judged-unique (x .verdict) (y .verdict) in
-      let z = subst (λ (w : Answer). ParentedAs m R P w R₂ P₂) (sym e) y in (
+      let z = subst (λ (w : Answer). ParentedAs m R W P w R₂ W₂ P₂) (sym e) y in (
         e,
         left-unique (λ _ c p q _. rank-only p q) (x .ranks) (z .ranks),
-        left-unique (λ k c p q h. parent-only (getD R₁ c 0) p q (x .ranks .filled k .needed c h)) (x .parents) (z .parents),
+        left-unique (λ k c p q _. weight-only (sound k) p q) (x .weights) (z .weights),
+        left-unique (λ k c p q h. parent-only (getD W₁ c 0) p q (x .weights .filled k .needed c h)) (x .parents) (z .parents),
       )
+    where
+      sound : (a .number ≡ 0) ⊎ (14 ≤ a .number) → Sound m
+      sound (inl e) = parents-checked m (judged-passes 13 (x .verdict) refl e) .sound
+      sound (inr l) = absurd (omega (arith, judged-number 1 13 (x .verdict) refl (λ e. omega arith) .1))

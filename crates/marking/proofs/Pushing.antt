@@ -1,4 +1,4 @@
--- What offers do to the ranks, the parents and the queue: offers made one after the other are one offer, and a push to a single couple
+-- What offers do to the weights, the parents and the queue: offers made one after the other are one offer, and a push to a single couple
 -- is one, by the cases of its code. There is room in the queue because each couple enters once (pigeonholes).
 use mathlib.Core.Path.{_≡_, refl, sym, ap, _∙_}
 use mathlib.Core.Logic.{_⊎_, ⊎-elim, inl, inr}
@@ -10,9 +10,10 @@ use lib.ListN.{getD, set, length, length-set}
 use lib.Seq.{getD-set-same, getD-set-other}
 use lib.Dec.{eqb}
 use borrow.Author.Tests.{eq-eqb, ne-eqb}
-use Rattle.machine.specs.Limits.{mostCouples, unmarked}
+use Rattle.machine.specs.Limits.{mostCouples}
 use Rattle.machine.proofs.Order.{equal-or}
 use Rattle.machine.proofs.Small.{pigeons}
+use Rattle.several.specs.Weights.{unweighed}
 use Rattle.marking.specs.inner.Queue.{Offer, Room, Fresh, Pushed}
 use Rattle.marking.specs.inner.Queue.Offer.{given, lower, same}
 use mathlib.Core.Bool.{cond}
@@ -21,7 +22,7 @@ module _ {r p : ℕ} {R P : List ℕ} where
   offer-none : {A : ℕ → Type 0} {c : ℕ} → (A c → ⊥) → Offer A r p R P R P c
   offer-none n = same (λ a. absurd (n a)) (λ a. absurd (n a)) refl refl
 
-  offer-then : {A B : ℕ → Type 0} {R₁ P₁ R₂ P₂ : List ℕ} {c : ℕ} → r < unmarked
+  offer-then : {A B : ℕ → Type 0} {R₁ P₁ R₂ P₂ : List ℕ} {c : ℕ} → r < unweighed
       → Offer A r p R P R₁ P₁ c → Offer B r p R₁ P₁ R₂ P₂ c → Offer (λ d. A d ⊎ B d) r p R P R₂ P₂ c
   offer-then h (given a e f g) (given b i j k) = absurd (omega arith)
   offer-then h (given a e f g) (lower b i l j k) = absurd (omega arith)
@@ -40,8 +41,8 @@ module _ {r p : ℕ} {R P : List ℕ} where
   offer-as to of (lower a e l f g) = lower (to a) e l f g
   offer-as to of (same n o f g) = same (λ b e. n (of b) e) (λ b e. o (of b) e) f g
 
--- there is room for a couple without a rank
-room-left : {R P Q : List ℕ} {tail : ℕ} → Room R P Q tail → (c : ℕ) → c < length R → getD R c 0 ≡ unmarked → tail < length R
+-- there is room for a couple without a weight
+pub room-left : {R P Q : List ℕ} {tail : ℕ} → Room R P Q tail → (c : ℕ) → c < length R → getD R c 0 ≡ unweighed → tail < length R
 room-left {R} {P} {Q} {tail} x c l e = pigeons (length R) (suc tail) f below one
   where
     f : ℕ → ℕ
@@ -66,7 +67,7 @@ room-left {R} {P} {Q} {tail} x c l e = pigeons (length R) (suc tail) f below one
 pub narrowed : {R P Q : List ℕ} {tail c x : ℕ} → Room R P Q tail → c < length R → x ≡ c % 2 ^ 16 → x ≡ c
 narrowed x l e = e ∙ mod-eq-of-lt (omega (arith, x .few))
 
-pub room-free : {R P Q : List ℕ} {tail : ℕ} → Room R P Q tail → (c : ℕ) → c < length R → getD R c 0 ≡ unmarked → (tail < length Q) × (tail < mostCouples)
+pub room-free : {R P Q : List ℕ} {tail : ℕ} → Room R P Q tail → (c : ℕ) → c < length R → getD R c 0 ≡ unweighed → (tail < length Q) × (tail < mostCouples)
 room-free x c l e = (omega (arith, room-left x c l e, x .long), omega (arith, room-left x c l e, x .few))
 
 module _ {r p : ℕ} {R P Q : List ℕ} {tail : ℕ} where
@@ -77,7 +78,7 @@ module _ {r p : ℕ} {R P Q : List ℕ} {tail : ℕ} where
       → Pushed A r p R P Q tail R₁ P₁ Q₁ t₁ → Pushed B r p R P Q tail R₁ P₁ Q₁ t₁
   pushed-as to of x = record { room = x .room; same-length = x .same-length; fresh = x .fresh; more = x .more; kept = x .kept; offer = λ c. offer-as (to c) (of c) (x .offer c) }
 
-  pub pushed-then : {A B : ℕ → Type 0} {R₁ P₁ Q₁ R₂ P₂ Q₂ : List ℕ} {t₁ t₂ : ℕ} → r < unmarked
+  pub pushed-then : {A B : ℕ → Type 0} {R₁ P₁ Q₁ R₂ P₂ Q₂ : List ℕ} {t₁ t₂ : ℕ} → r < unweighed
       → Pushed A r p R P Q tail R₁ P₁ Q₁ t₁ → Pushed B r p R₁ P₁ Q₁ t₁ R₂ P₂ Q₂ t₂ → Pushed (λ d. A d ⊎ B d) r p R P Q tail R₂ P₂ Q₂ t₂
   pushed-then h x y = record {
     room = y .room;
@@ -88,8 +89,8 @@ module _ {r p : ℕ} {R P Q : List ℕ} {tail : ℕ} where
     offer = λ c. offer-then h (x .offer c) (y .offer c);
   }
 
-  -- a couple that has a rank, which it keeps with its parent
-  same-at : (c : ℕ) → Room R P Q tail → (getD R c 0 ≡ unmarked → ⊥) → (getD R c 0 ≡ r → getD P c 0 ≤ p) → Pushed (λ d. d ≡ c) r p R P Q tail R P Q tail
+  -- a couple that has a weight, which it keeps with its parent
+  same-at : (c : ℕ) → Room R P Q tail → (getD R c 0 ≡ unweighed → ⊥) → (getD R c 0 ≡ r → getD P c 0 ≤ p) → Pushed (λ d. d ≡ c) r p R P Q tail R P Q tail
   same-at c x n o = record {
     room = x;
     same-length = refl;
@@ -99,13 +100,13 @@ module _ {r p : ℕ} {R P Q : List ℕ} {tail : ℕ} where
     offer = λ d. same (λ q e. n (ap (λ (y : ℕ). getD R y 0) (sym q) ∙ e)) (λ q e. rw q (o (ap (λ (y : ℕ). getD R y 0) (sym q) ∙ e))) refl refl;
   }
 
-  pub push-least : (c : ℕ) → Room R P Q tail → (getD R c 0 ≡ unmarked → ⊥) → getD P c 0 ≤ p → Pushed (λ d. d ≡ c) r p R P Q tail R P Q tail
+  pub push-least : (c : ℕ) → Room R P Q tail → (getD R c 0 ≡ unweighed → ⊥) → getD P c 0 ≤ p → Pushed (λ d. d ≡ c) r p R P Q tail R P Q tail
   push-least c x n o = same-at c x n (λ _. o)
 
-  pub push-other : (c : ℕ) → Room R P Q tail → (getD R c 0 ≡ unmarked → ⊥) → (getD R c 0 ≡ r → ⊥) → Pushed (λ d. d ≡ c) r p R P Q tail R P Q tail
+  pub push-other : (c : ℕ) → Room R P Q tail → (getD R c 0 ≡ unweighed → ⊥) → (getD R c 0 ≡ r → ⊥) → Pushed (λ d. d ≡ c) r p R P Q tail R P Q tail
   push-other c x n o = same-at c x n (λ e. absurd (o e))
 
-  -- a couple of rank r with a higher parent
+  -- a couple of weight r with a higher parent
   pub push-lower : (c : ℕ) → Room R P Q tail → c < length R → getD R c 0 ≡ r → p < getD P c 0 → Pushed (λ d. d ≡ c) r p R P Q tail R (set P c p) Q tail
   push-lower c x l e f = record {
     room = record { parents-long = rw length-set (x .parents-long); long = x .long; few = x .few; low = x .low; once = x .once; marked = x .marked };
@@ -119,8 +120,8 @@ module _ {r p : ℕ} {R P Q : List ℕ} {tail : ℕ} where
         (equal-or d c);
   }
 
-  -- a couple without a rank
-  pub push-given : (c : ℕ) → Room R P Q tail → c < length R → r < unmarked → getD R c 0 ≡ unmarked
+  -- a couple without a weight
+  pub push-given : (c : ℕ) → Room R P Q tail → c < length R → r < unweighed → getD R c 0 ≡ unweighed
       → Pushed (λ d. d ≡ c) r p R P Q tail (set R c r) (set P c p) (set Q tail c) (tail + 1)
   push-given c x l k e = record {
     room = record {
@@ -160,9 +161,9 @@ module _ {r p : ℕ} {R P Q : List ℕ} {tail : ℕ} where
           (λ a. ⊎-elim (λ b. absurd (a .2 (sym (a .1) ∙ q ∙ b .1))) (λ b. x .once i j (a .0) (b .0) (sym (a .1) ∙ q ∙ b .1)) (is j u))
           (is i o)
 
-      marked : (i : ℕ) → i < tail + 1 → getD (set R c r) (getD (set Q tail c) i 0) 0 ≡ unmarked → ⊥
+      marked : (i : ℕ) → i < tail + 1 → getD (set R c r) (getD (set Q tail c) i 0) 0 ≡ unweighed → ⊥
       marked i o = ⊎-elim
-          (λ q. rw (q .1, there) (λ (g : r ≡ unmarked). omega arith))
+          (λ q. rw (q .1, there) (λ (g : r ≡ unweighed). omega arith))
           (λ q. rw (q .1, getD-set-other R c (getD Q i 0) r 0 (q .2)) (x .marked i (q .0)))
           (is i o)
 

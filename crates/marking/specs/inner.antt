@@ -1,2 +1,6 @@
 -- What proofs and private contracts cite, and no public promise.
+pub mod Levels
 pub mod Queue
+pub mod Engine
+pub mod Turns
+pub mod Parts

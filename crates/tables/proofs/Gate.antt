@@ -1,17 +1,19 @@
 -- What a table that passed its checks has: sizes within their ranges, and without refusals 4 and 10 it makes a sound machine. Back, a
 -- sound machine with a long table passes.
 use mathlib.Core.Path.{_≡_, refl, subst}
+use mathlib.Core.Bool.{Bool}
 use mathlib.Core.List.{List}
 use Prim.Native.Nat.{ℕ, _+_, _*_, _%_, _^_, _≤_, _<_}
 use native.Mathlib.Omega.{arith}
 use lib.ListN.{length, getD}
 use lib.Arith.{digits-lt}
-use Rattle.verdict.specs.Checks.{Passed, Judged}
+use Rattle.verdict.specs.Checks.{Decides, Passed, Judged}
 use Rattle.verdict.specs.declared.Answer.{Answer}
 use Rattle.verdict.proofs.Order.{Passes, judged-passes, long, roomy}
-use Rattle.verdict.proofs.Tests.{meets}
+use Rattle.verdict.proofs.Tests.{decides-map, meets}
 use Rattle.machine.specs.Limits.{mostInputs, Sized}
-use Rattle.machine.specs.Runs.{Machine, size, move}
+use Rattle.machine.specs.Runs.{Machine, machineBy, machineOf, size, move}
+use Rattle.machine.specs.declared.Frame.{Frame}
 use Rattle.machine.proofs.Couples.{settings-bound}
 use Rattle.machine.proofs.Sizes.{settings-are, sizes, couples-few}
 use Rattle.machine.proofs.Soundness.{sound-machine}
@@ -52,6 +54,10 @@ module _ {m : Machine} where
 
   pub size-passes : Tabled m → Passes (sizeChecks m)
   size-passes t = (meets (t .sized), (long (t .long), tt))
+
+-- a test of 2 and 3 says the same of both machines of a frame: they differ in their changes alone
+pub tabled-by : (several : Bool) (f : Frame) (T : List ℕ) {r : Bool} → Decides (Tabled (machineOf f T)) r → Decides (Tabled (machineBy several f T)) r
+tabled-by several f T = decides-map (λ t. record { sized = t .sized; long = t .long }) (λ t. record { sized = t .sized; long = t .long })
 
 -- a couple's number by a shift: it stands in the table, and the element there is its move
 module _ {m : Machine} (t : Tabled m) {s v : ℕ} (h : s < m .states) (k : v < size m) where

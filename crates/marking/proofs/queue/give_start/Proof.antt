@@ -1,4 +1,4 @@
--- `give_start` offers rank 0 to the couple of a start, and to no other.
+-- `give_start` offers weight 0 to the couple of a start, and to no other.
 use Rattle.marking.proofs.Pushing.{pushed-as, pushed-none}
 use borrow.Author.Needs.{needs}
 use Rattle.marking.proofs.queue.give_start.Statement.{statement}

@@ -1,22 +1,23 @@
--- `give_starts` offers rank 0 to the starts among the first v settings.
+-- `give_starts` offers weight 0 to the starts among the first v settings.
 use Rattle.marking.proofs.Expanding.{one-more}
 use Rattle.marking.proofs.Pushing.{pushed-none}
-use Rattle.marking.specs.inner.Queue.{Pushed, ByStart, ByStarts}
+use Rattle.marking.specs.inner.Queue.{Pushed}
+use Rattle.marking.specs.inner.Engine.{ByStart, ByStarts}
 use borrow.Author.Needs.{needs}
 use native.Mathlib.Omega.{arith}
 use mathlib.Core.Path.{_≡_, refl}
 use Prim.Native.Nat.{_-_, _≤_}
 use lib.ListN.{length}
-use Rattle.machine.specs.Runs.{machineOf}
+use Rattle.machine.specs.Runs.{machineBy}
 use Rattle.marking.proofs.queue.give_starts.Statement.{statement}
 use Rattle.marking.proofs.queue.give_starts.Tie as tie
 
 abbrev Inv-loop : tie.InvT-loop
-Inv-loop table ranks₀ parents₀ queue₀ sizes tail₀ v₀ ranks parents queue tail v =
-    (v ≤ sizes .settings) × Pushed (ByStarts (machineOf (sizes .frame) table) (sizes .settings) v) 0 0 ranks₀ parents₀ queue₀ 0 ranks parents queue tail × (length parents ≡ length parents₀) × (length queue ≡ length queue₀)
+Inv-loop table weights₀ parents₀ queue₀ sizes tail₀ v₀ weights parents queue tail v =
+    (v ≤ sizes .settings) × Pushed (ByStarts (machineBy (sizes .several) (sizes .frame) table) (sizes .settings) v) 0 0 weights₀ parents₀ queue₀ 0 weights parents queue tail × (length parents ≡ length parents₀) × (length queue ≡ length queue₀)
 
 abbrev μ-loop : tie.MeasureT-loop
-μ-loop table ranks₀ parents₀ queue₀ sizes tail₀ v₀ ranks parents queue tail v = sizes .settings - v
+μ-loop table weights₀ parents₀ queue₀ sizes tail₀ v₀ weights parents queue tail v = sizes .settings - v
 
 loop-holds : tie.Need-loop-holds Inv-loop μ-loop
 loop-holds c = (omega arith, pushed-none (c .before .before .before .before .pre .0) (λ d (j, l, b). omega arith), refl, refl)
@@ -25,7 +26,7 @@ give-start-requires : tie.Need-give-start-requires Inv-loop μ-loop
 give-start-requires c κs = (c .before .before .before .before .before .loop .inv .1 .room, c .before .before .before .before .before .before .before .before .before .before .pre .1, omega (arith, c .before .before .before .before .before .loop .inv .1 .same-length))
 
 loop-again : tie.Need-loop-again Inv-loop μ-loop
-loop-again c = (omega arith, one-more (ByStart (machineOf (c .before .before .before .before .before .before .before .before .before .before .before .before .before .before .before .before .before .args .sizes .frame) (c .before .before .before .before .before .before .before .before .before .before .before .before .before .before .before .before .before .args .table .now)) (c .before .before .before .before .before .before .before .before .before .before .before .before .before .before .before .before .before .args .sizes .settings)) (c .before .before .before .before .before .before .before .before .before .before .before .before .loop .v) (omega arith) (c .before .before .before .before .before .before .before .before .before .before .before .before .loop .inv .1) (c .before .before .before .before .before .before .give-start .ensures), omega arith, omega arith)
+loop-again c = (omega arith, one-more (ByStart (machineBy (c .before .before .before .before .before .before .before .before .before .before .before .before .before .before .before .before .before .args .sizes .several) (c .before .before .before .before .before .before .before .before .before .before .before .before .before .before .before .before .before .args .sizes .frame) (c .before .before .before .before .before .before .before .before .before .before .before .before .before .before .before .before .before .args .table .now)) (c .before .before .before .before .before .before .before .before .before .before .before .before .before .before .before .before .before .args .sizes .settings)) (c .before .before .before .before .before .before .before .before .before .before .before .before .loop .v) (omega arith) (c .before .before .before .before .before .before .before .before .before .before .before .before .loop .inv .1) (c .before .before .before .before .before .before .give-start .ensures), omega arith, omega arith)
 
 same-length : tie.Need-same-length Inv-loop μ-loop
 same-length c = c .before .before .loop .inv .1 .same-length
