@@ -1,12 +1,14 @@
 // What C and Rust link (include/mundrefol.h): thin exports over the proved libraries.
 ghost use mathlib.Core.Path.{_≡_};
+ghost use mathlib.Core.Bool.{true};
 ghost use lib.ListN.{getD};
 ghost use Rattle.verdict.specs.Checks.{Decides};
-ghost use Rattle.machine.specs.Runs.{machineOf};
+ghost use Rattle.machine.specs.Runs.{machineOf, machineBy};
 ghost use Rattle.evolutions.specs.Evolutions.{blank, Met};
 ghost use Rattle.specification.specs.Reading.{ReadAs};
 ghost use Rattle.marking.specs.Marking.{MarkedAs};
 ghost use Rattle.plan.specs.Planning.{RunAs, PlannedAs};
+ghost use Rattle.plan.specs.Multi.{MultiAs, ListedAs};
 ghost use Rattle.shorten.specs.Shortening.{ShortenedAs};
 ghost use Rattle.readings.specs.Expected.{ExpectedAs};
 ghost use Rattle.bench.specs.Log.{numberOf, placeOf, kindOf, updateOf};
@@ -74,6 +76,20 @@ pub extern "C" fn mundrefol_run_to(
     plan::run_to(frame, table, ranks, couple, run)
 }
 
+// `plan::multi_run_to`.
+#[no_mangle]
+pub extern "C" fn mundrefol_multi_run_to(
+    frame: Frame,
+    table: &[u8],
+    ranks: &mut [u16],
+    couple: usize,
+    run: &mut [u8],
+) -> Answer
+    ensures { λ r. ⌜ MultiAs (machineBy true frame (now (table .entry))) couple (now (ranks .entry)) (now (run .entry)) r (now (ranks .exit)) (now (run .exit)) ⌝ }
+{
+    plan::multi_run_to(frame, table, ranks, couple, run)
+}
+
 // `plan::plan`.
 #[no_mangle]
 pub extern "C" fn mundrefol_plan(
@@ -85,6 +101,19 @@ pub extern "C" fn mundrefol_plan(
     ensures { λ r. ⌜ PlannedAs (machineOf frame (now (table .entry))) (now (ranks .entry)) (now (plan .entry)) r (now (ranks .exit)) (now (plan .exit)) ⌝ }
 {
     plan::plan(frame, table, ranks, plan)
+}
+
+// `plan::multi_list`.
+#[no_mangle]
+pub extern "C" fn mundrefol_multi_list(
+    frame: Frame,
+    table: &[u8],
+    ranks: &mut [u16],
+    list: &mut [u8],
+) -> Answer
+    ensures { λ r. ⌜ ListedAs (machineBy true frame (now (table .entry))) (now (ranks .entry)) (now (list .entry)) r (now (ranks .exit)) (now (list .exit)) ⌝ }
+{
+    plan::multi_list(frame, table, ranks, list)
 }
 
 // `shorten::shorten`.
@@ -107,6 +136,20 @@ pub extern "C" fn mundrefol_expected(
     ensures { λ r. ⌜ ExpectedAs (machineOf frame (now (table .entry))) (now (words .entry)) (now (run .entry)) (now (readings .entry)) r (now (readings .exit)) ⌝ }
 {
     readings::expected(frame, table, words, run, readings)
+}
+
+// `readings::multi_expected`.
+#[no_mangle]
+pub extern "C" fn mundrefol_multi_expected(
+    frame: Frame,
+    table: &[u8],
+    words: &[u16],
+    run: &[u8],
+    readings: &mut [u16],
+) -> Answer
+    ensures { λ r. ⌜ ExpectedAs (machineBy true frame (now (table .entry))) (now (words .entry)) (now (run .entry)) (now (readings .entry)) r (now (readings .exit)) ⌝ }
+{
+    readings::multi_expected(frame, table, words, run, readings)
 }
 
 // `bench::update`.

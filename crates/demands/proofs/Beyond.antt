@@ -14,7 +14,7 @@ use Rattle.machine.specs.declared.Frame.{Frame}
 use Rattle.machine.proofs.Beyond.{Rules, Agree, under, agree-back, rulesOf, withSets, SameBelow, frames-agree, starts-same, marked-same, rank-same, cell-same, run-to-same, plan-same, fault-same, sees-same, visited-same}
 use Rattle.marking.specs.Marking.{markChecks, MarkedAs}
 use Rattle.marking.proofs.Once.{mark-only}
-use Rattle.plan.specs.Planning.{ShortRun, RunDone, RunAs, PlanBytes, ShortPlan, PlanDone, PlannedAs}
+use Rattle.plan.specs.Planning.{ShortRun, RunDone, RunAs, PlanBytes, ShortOf, WholeDone, PlannedAs}
 use Rattle.plan.proofs.Once.{run-to-only, plan-only}
 use Rattle.runs.specs.Stored.{Broken}
 use Rattle.shorten.specs.Shortening.{Superfluous, Shortens, Shortened, ShortenDone, ShortenedAs}
@@ -32,7 +32,7 @@ module _ (m : Machine) {r q : Rules} (h : Agree (size m) r q) where
   plan-bytes : (w : List ℕ) → PlanBytes (under m r) w → PlanBytes (under m q) w
   plan-bytes w (plan, x, e) = (plan, plan-same m h x, e)
 
-  short-plan : (room p : ℕ) → ShortPlan (under m r) room p → ShortPlan (under m q) room p
+  short-plan : (room p : ℕ) → ShortOf (PlanBytes (under m r)) room p → ShortOf (PlanBytes (under m q)) room p
   short-plan room p (w, x, s) = (w, plan-bytes w x, s)
 
   sized-run : (run : List ℕ) → SizedRun (under m r) run → SizedRun (under m q) run
@@ -89,8 +89,8 @@ module _ (f : Frame) (never starts T : List ℕ) (same : SameBelow (f .inputs) (
     run = written-map (run-to-same m to c) (x .run);
   }
 
-  plan-done : {a : Answer} → Judged [] (PlanDone (machineOf f T)) a → Judged [] (PlanDone (machineOf g T)) a
-  plan-done v = let d = v .verdict in record { verdict = record { number = d .number; bytes = d .bytes; planned = plan-bytes m to (d .bytes) (d .planned); place = d .place } }
+  plan-done : {a : Answer} → Judged [] (WholeDone (PlanBytes (machineOf f T))) a → Judged [] (WholeDone (PlanBytes (machineOf g T))) a
+  plan-done v = let d = v .verdict in record { verdict = record { number = d .number; bytes = d .bytes; is = plan-bytes m to (d .bytes) (d .is); place = d .place } }
 
   plan-carries : {ranks₀ plan₀ ranks₁ plan₁ : List ℕ} {a : Answer} → PlannedAs (machineOf f T) ranks₀ plan₀ a ranks₁ plan₁ → PlannedAs (machineOf g T) ranks₀ plan₀ a ranks₁ plan₁
   plan-carries {ranks₀} {plan₀} x = record {

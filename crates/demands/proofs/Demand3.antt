@@ -56,7 +56,7 @@ module _ {m : Machine} where
 
   -- the plan answered 0, with the bytes that it wrote as its place
   module _ {ranks₀ plan₀ ranks₁ plan₁ : List ℕ} {a : Answer} (p : PlannedAs m ranks₀ plan₀ a ranks₁ plan₁) (e : a .number ≡ 0) where
-    held : Plan m (couples m) (runsIn (take (a .place) plan₁))
+    pub held : Plan m (couples m) (runsIn (take (a .place) plan₁))
     held = let (runs, x, f) = plan-held p e in subst (Plan m (couples m)) (sym (ap runsIn f ∙ split-stored runs)) x
 
     pub plan-right : RightPlan m (take (a .place) plan₁)

@@ -3,3 +3,5 @@ pub mod Applies
 pub mod Shortened
 pub mod KeepsOff
 pub mod Beyond
+pub mod Apart
+pub mod Several

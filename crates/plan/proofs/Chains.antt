@@ -1,9 +1,9 @@
 -- The settings along a chain of parents, and the stored runs made of them: each law goes one couple back along the chain, or one
 -- couple up in the plan.
-use mathlib.Core.Path.{_≡_, refl, ap}
+use mathlib.Core.Path.{_≡_, refl, ap, _∙_}
 use mathlib.Core.Logic.{⊎-elim}
 use mathlib.Core.List.{List, [], _∷_, _++_, append-assoc}
-use mathlib.Core.Bool.{Bool, true, false}
+use mathlib.Core.Bool.{Bool, true, false, cond}
 use Prim.Native.Nat.{ℕ, zero, suc, _+_, _/_, _%_, _≤_, _<_}
 use native.Mathlib.Numerals.{add-one}
 use native.Mathlib.Nat.{mod-lt, eq-or-lt-of-le}
@@ -12,7 +12,8 @@ use lib.ListN.{length, getD, set, drop, length-append}
 use Rattle.machine.specs.Limits.{mostSettings}
 use Rattle.machine.specs.Plans.{storedRun}
 use Rattle.machine.specs.inner.Model.{followed}
-use Rattle.plan.specs.inner.Writing.{settings, piece, pieces, InTree}
+use Rattle.several.specs.Weights.{extra}
+use Rattle.plan.specs.inner.Writing.{settings, storedBy, piece, pieces, InTree}
 use Rattle.plan.proofs.Fronts.{drop-set-here}
 
 -- what stands behind the settings stays there
@@ -46,7 +47,7 @@ parent-in-tree {P} {z} {c} w = record { total = w .total; tree = w .tree; below 
 pub setting-small : {P : List ℕ} {z c : ℕ} (w : InTree P z c) → (d : ℕ) → d % z < mostSettings
 setting-small {P} {z} w d = omega (arith, mod-lt d (w .tree .some), w .tree .small)
 
--- the stored run to a couple of rank r
+-- the stored run to a couple, of r changes
 module _ (P : List ℕ) (z c r : ℕ) where
   pub length-stored : length (storedRun (settings P z c (r + 1))) ≡ r + 3
   length-stored = rw (length-settings P z (r + 1) c) (omega arith)
@@ -55,26 +56,44 @@ module _ (P : List ℕ) (z c r : ℕ) where
   pub count-bytes : storedRun (settings P z c (r + 1)) ≡ ((r + 1) % 256 ∷ (r + 1) / 256 ∷ []) ++ settings P z c (r + 1)
   count-bytes = rw (length-settings P z (r + 1) c) refl
 
+-- what the list stores of it, and the plan
+pub list-stores : (P : List ℕ) (z c w : ℕ)
+    → storedBy true P z c w ≡ (w / extra % 256 ∷ w / extra / 256 ∷ []) ++ storedRun (settings P z c (w % extra + 1))
+unfolding storedBy
+list-stores P z c w = refl
+
+pub plan-stores : (P : List ℕ) (z c w : ℕ) → storedBy false P z c w ≡ storedRun (settings P z c (w % extra + 1))
+unfolding storedBy
+plan-stores P z c w = refl
+
+pub length-by : (several : Bool) (P : List ℕ) (z c w : ℕ) → length (storedBy several P z c w) ≡ w % extra + cond several 5 3
+unfolding storedBy
+length-by true P z c w = omega (arith, length-stored P z c (w % extra))
+length-by false P z c w = length-stored P z c (w % extra)
+
+pub length-when : (P : List ℕ) (z c w : ℕ) {several b : Bool} → several ≡ b → length (storedBy several P z c w) ≡ w % extra + cond b 5 3
+length-when P z c w {several} e = length-by several P z c w ∙ ap (λ (d : Bool). w % extra + cond d 5 3) e
+
 -- the stored runs of chosen couples
-module _ (P R : List ℕ) (z : ℕ) (C : List Bool) where
-  pub piece-chosen : (c : ℕ) → getD C c false ≡ true → piece P R z C c ≡ storedRun (settings P z c (getD R c 0 + 1))
+module _ (several : Bool) (P W : List ℕ) (z : ℕ) (C : List Bool) where
+  pub piece-chosen : (c : ℕ) → getD C c false ≡ true → piece several P W z C c ≡ storedBy several P z c (getD W c 0)
   unfolding piece
   piece-chosen c e = rw e refl
 
-  pub piece-left : (c : ℕ) → getD C c false ≡ false → piece P R z C c ≡ []
+  pub piece-left : (c : ℕ) → getD C c false ≡ false → piece several P W z C c ≡ []
   unfolding piece
   piece-left c e = rw e refl
 
-  pub pieces-none : pieces P R z C 0 ≡ []
+  pub pieces-none : pieces several P W z C 0 ≡ []
   unfolding pieces
   pieces-none = refl
 
-  pub pieces-more : (c : ℕ) → pieces P R z C (c + 1) ≡ pieces P R z C c ++ piece P R z C c
+  pub pieces-more : (c : ℕ) → pieces several P W z C (c + 1) ≡ pieces several P W z C c ++ piece several P W z C c
   unfolding pieces
   pieces-more c = rw (add-one c)
 
   -- those of the first c couples and of the next are no longer than all
-  pub pieces-fit : (t c : ℕ) → c < t → length (pieces P R z C c) + length (piece P R z C c) ≤ length (pieces P R z C t)
+  pub pieces-fit : (t c : ℕ) → c < t → length (pieces several P W z C c) + length (piece several P W z C c) ≤ length (pieces several P W z C t)
   unfolding pieces
   pieces-fit zero c h = absurd (omega arith)
   pieces-fit (suc t) c h =

@@ -4,7 +4,10 @@ pub mod Turns
 pub mod Flags
 pub mod Visits
 pub mod Noted
+pub mod Bytes
 pub mod Marked
+pub mod Endings
 pub mod Outcomes
 pub mod Once
 pub mod Held
+pub mod Alike

@@ -1,21 +1,24 @@
--- The first pass of the plan, couple by couple: what its flags say after each turn, and that all that a turn touches is a couple.
-use mathlib.Core.Path.{_≡_, refl, ap, ap₂, _∙_}
+-- The first pass of the plan or list, couple by couple: what its flags say after each turn, and that all that a turn touches is a couple.
+use mathlib.Core.Path.{_≡_, refl, sym, ap, ap₂, _∙_}
 use mathlib.Core.List.{List}
-use mathlib.Core.Bool.{Bool, true, false}
+use mathlib.Core.Bool.{Bool, true, false, cond}
 use Prim.Native.Nat.{ℕ, _+_, _*_, _/_, _%_, _≤_, _<_}
 use native.Mathlib.Numerals.{add-one}
+use native.Mathlib.Nat.{mod-lt}
 use native.Mathlib.Omega.{arith}
 use lib.ListN.{getD, set}
 use lib.Seq.{set-set}
+use lib.Dec.{leb}
 use borrow.Author.Tests.{eq-eqb, ne-eqb}
-use Rattle.machine.specs.Limits.{unmarked}
-use Rattle.plan.specs.inner.Choosing.{notedChange, notedRun, wanted, notedAt, bytesAt, noted, flags, bytes, Turn, Chosen, Reach, RoomFor}
+use Rattle.verdict.proofs.Tests.{true≢false}
+use Rattle.several.specs.Weights.{extra, unweighed}
+use Rattle.plan.specs.inner.Choosing.{notedChange, notedRun, looksAt, wanted, notedAt, bytesAt, noted, flags, bytes, Turn, Chosen, Reach, RoomFor}
 
 -- one change noted, one fewer is left
-pub noted-back : (T P : List ℕ) (z c m n : ℕ) (W : List Bool) → n ≡ m + 1
-    → notedRun T P z (getD P c 0) m (notedChange T z (getD P c 0) (c % z) W) ≡ notedRun T P z c n W
+pub noted-back : (T P : List ℕ) (z c m n : ℕ) (F : List Bool) → n ≡ m + 1
+    → notedRun T P z (getD P c 0) m (notedChange T z (getD P c 0) (c % z) F) ≡ notedRun T P z c n F
 unfolding notedRun
-noted-back T P z c m n W e = rw (e, add-one m)
+noted-back T P z c m n F e = rw (e, add-one m)
 
 module _ {T P : List ℕ} {z l c : ℕ} (r : RoomFor T P z l c) where
   pub parent-room : RoomFor T P z l (getD P c 0)
@@ -32,48 +35,82 @@ module _ {T P : List ℕ} {z l c : ℕ} (r : RoomFor T P z l c) where
         moved = omega (arith, r .room .moved (c / z * z + v) v a h, r .room .flags-long);
       }
 
+-- at which couples the plan or list looks, by their weights
+module _ (several : Bool) (w : ℕ) where
+  pub looks-none : w ≡ unweighed → looksAt several w ≡ false
+  unfolding looksAt
+  looks-none e = rw (eq-eqb w unweighed e) refl
+
+  pub looks-weighed : looksAt several w ≡ true → w ≡ unweighed → ⊥
+  looks-weighed e f = true≢false (sym e ∙ looks-none f)
+
+pub looks-plan : (w : ℕ) → (w ≡ unweighed → ⊥) → looksAt false w ≡ true
+unfolding looksAt
+looks-plan w n = rw (ne-eqb w unweighed n) refl
+
+pub looks-list : (w : ℕ) → (w ≡ unweighed → ⊥) → looksAt true w ≡ leb extra w
+unfolding looksAt
+looks-list w n = rw (ne-eqb w unweighed n) refl
+
 -- when a couple is wanted
-module _ (R : List ℕ) (W : List Bool) (c : ℕ) where
-  pub wanted-unmarked : getD R c 0 ≡ unmarked → wanted R W c ≡ false
+module _ (several : Bool) (W : List ℕ) (F : List Bool) (c : ℕ) where
+  pub wanted-not : looksAt several (getD W c 0) ≡ false → wanted several W F c ≡ false
   unfolding wanted
-  wanted-unmarked e = rw (eq-eqb _ _ e) refl
+  wanted-not e = rw e refl
 
-  pub wanted-visited : (getD R c 0 ≡ unmarked → ⊥) → getD W c false ≡ true → wanted R W c ≡ false
+  pub wanted-visited : getD F c false ≡ true → wanted several W F c ≡ false
   unfolding wanted
-  wanted-visited e f = rw (ne-eqb _ _ e, f) refl
+  wanted-visited f = rw f (either (looksAt several (getD W c 0)))
+    where
+      either : (b : Bool) → cond b false false ≡ false
+      either true = refl
+      either false = refl
 
-  pub wanted-here : (getD R c 0 ≡ unmarked → ⊥) → getD W c false ≡ false → wanted R W c ≡ true
+  pub wanted-here : looksAt several (getD W c 0) ≡ true → getD F c false ≡ false → wanted several W F c ≡ true
   unfolding wanted
-  wanted-here e f = rw (ne-eqb _ _ e, f) refl
+  wanted-here e f = rw (e, f) refl
 
-module _ (T P R : List ℕ) (z c : ℕ) (W C : List Bool) where
-  passed-over : wanted R W c ≡ false → Turn T P R z c 0 W C W (set C c false)
+  pub wanted-looks : wanted several W F c ≡ true → looksAt several (getD W c 0) ≡ true
+  wanted-looks e = go (looksAt several (getD W c 0)) refl
+    where
+      go : (b : Bool) → looksAt several (getD W c 0) ≡ b → b ≡ true
+      go true f = refl
+      go false f = absurd (true≢false (sym e ∙ wanted-not f))
+
+module _ (several : Bool) (T P W : List ℕ) (z c : ℕ) (F C : List Bool) where
+  passed-over : wanted several W F c ≡ false → Turn several T P W z c 0 F C F (set C c false)
   unfolding notedAt bytesAt
   passed-over e = record { bytes-are = rw e refl; bytes-few = omega arith; visited-are = rw e refl; chosen-are = rw e refl }
 
-  pub turn-unmarked : getD R c 0 ≡ unmarked → Turn T P R z c 0 W C W (set C c false)
-  turn-unmarked e = passed-over (wanted-unmarked R W c e)
+  pub turn-not : looksAt several (getD W c 0) ≡ false → Turn several T P W z c 0 F C F (set C c false)
+  turn-not e = passed-over (wanted-not several W F c e)
 
-  pub turn-visited : (getD R c 0 ≡ unmarked → ⊥) → getD W c false ≡ true → Turn T P R z c 0 W C W (set C c false)
-  turn-visited e f = passed-over (wanted-visited R W c e f)
+  pub turn-visited : getD F c false ≡ true → Turn several T P W z c 0 F C F (set C c false)
+  turn-visited f = passed-over (wanted-visited several W F c f)
 
-  pub turn-taken : (r : ℕ) (W′ : List Bool) → r ≡ getD R c 0 → r ≤ unmarked → (getD R c 0 ≡ unmarked → ⊥) → getD W c false ≡ false → W′ ≡ notedRun T P z c r W
-      → Turn T P R z c (r + 3) W C W′ (set (set C c false) c true)
+  -- the count bytes and one more are k
+  pub turn-taken : (r k : ℕ) (F′ : List Bool) → cond several 5 3 ≡ k → k ≤ 5 → r ≡ getD W c 0 % extra → looksAt several (getD W c 0) ≡ true → getD F c false ≡ false
+      → F′ ≡ notedRun T P z c r F → Turn several T P W z c (r + k) F C F′ (set (set C c false) c true)
   unfolding notedAt bytesAt
-  turn-taken r W′ i l m f s =
-      let e = wanted-here R W c m f in
-      record { bytes-are = rw e (omega arith); bytes-few = omega arith; visited-are = rw (e, ← i) s; chosen-are = rw e (set-set C c false true) }
+  turn-taken r k F′ o l i g f s =
+      let e = wanted-here several W F c g f in
+      record {
+        bytes-are = rw (e, o, i) refl;
+        bytes-few = let h : getD W c 0 % extra < extra = mod-lt (getD W c 0) (omega arith) in omega arith;
+        visited-are = rw (e, ← i) s;
+        chosen-are = rw e (set-set C c false true);
+      }
 
-module _ (T P R : List ℕ) (z : ℕ) where
-  pub chosen-none : (W C : List Bool) → Chosen T P R z 0 0 W C W C
+module _ (several : Bool) (T P W : List ℕ) (z : ℕ) where
+  pub chosen-none : (F C : List Bool) → Chosen several T P W z 0 0 F C F C
   unfolding noted flags bytes
-  chosen-none W C = record { bytes-are = refl; bytes-few = omega arith; visited-are = refl; chosen-are = refl }
+  chosen-none F C = record { bytes-are = refl; bytes-few = omega arith; visited-are = refl; chosen-are = refl }
 
-  pub chosen-more : {c n k : ℕ} {W C W′ C′ W″ C″ : List Bool} → Chosen T P R z c n W C W′ C′ → Turn T P R z c k W′ C′ W″ C″ → Chosen T P R z (c + 1) (n + k) W C W″ C″
+  pub chosen-more : {c n k : ℕ} {F C F′ C′ F″ C″ : List Bool} → Chosen several T P W z c n F C F′ C′ → Turn several T P W z c k F′ C′ F″ C″ → Chosen several T P W z (c + 1) (n + k) F C F″ C″
   unfolding noted flags bytes
-  chosen-more {c} {n} {k} {W} {C} {W′} {C′} {W″} {C″} p q = rw (add-one c) (record {
-    bytes-are = ap₂ (λ (a b : ℕ). a + b) (p .bytes-are) (q .bytes-are ∙ ap (bytesAt T P R z c) (p .visited-are));
+  chosen-more {c} {n} {k} {F} {C} {F′} {C′} {F″} {C″} p q = rw (add-one c) (record {
+    bytes-are = ap₂ (λ (a b : ℕ). a + b) (p .bytes-are) (q .bytes-are ∙ ap (bytesAt several T P W z c) (p .visited-are));
     bytes-few = omega (arith, p .bytes-few, q .bytes-few);
-    visited-are = q .visited-are ∙ ap (notedAt T P R z c) (p .visited-are);
-    chosen-are = q .chosen-are ∙ ap₂ (λ (a b : List Bool). set a c (wanted R b c)) (p .chosen-are) (p .visited-are);
+    visited-are = q .visited-are ∙ ap (notedAt several T P W z c) (p .visited-are);
+    chosen-are = q .chosen-are ∙ ap₂ (λ (a b : List Bool). set a c (wanted several W b c)) (p .chosen-are) (p .visited-are);
   })

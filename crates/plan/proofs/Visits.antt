@@ -3,17 +3,26 @@
 use mathlib.Core.Path.{_≡_, refl, sym, ap, ap₂, _∙_}
 use mathlib.Core.Logic.{⊎-elim}
 use mathlib.Core.List.{List, [], _∷_, _++_}
-use Prim.Native.Nat.{ℕ, zero, suc, _/_, _%_, _<_}
+use Prim.Native.Nat.{ℕ, zero, suc, _/_, _%_, _≤_, _<_}
 use native.Mathlib.Nat.{div-add-mod'}
 use native.Mathlib.Omega.{arith}
 use lib.ListN.{length, getD}
 use lib.Arith.{digits-div}
-use Rattle.machine.specs.Runs.{Machine, size, couple, move, visits, visitsFrom, Visitor, Rank}
-use Rattle.machine.specs.Shortest.{Parent}
-use Rattle.machine.specs.inner.Model.{Listed}
+use Rattle.machine.specs.Limits.{mostCouples}
+use Rattle.machine.specs.Runs.{Machine, size, couples, couple, move, Sound, visits, visitsFrom}
+use Rattle.machine.specs.inner.Trails.{Steps}
 use Rattle.machine.proofs.Trails.{stepped}
+use Rattle.several.specs.Weights.{WeightOrNone, ParentOrNone}
+use Rattle.several.proofs.Listed.{Away, away-starts, away-back}
 use Rattle.plan.specs.inner.Writing.{settings}
 use Rattle.plan.proofs.Chains.{settings-none, settings-more, length-settings}
+
+-- the weights and parents of a sound machine that is not too large
+pub record Told (m : Machine) (W P : List ℕ) : Type 0 where
+  pub sound : Sound m
+  pub few : couples m ≤ mostCouples
+  pub weight : (c : ℕ) → c < couples m → WeightOrNone m c (getD W c 0)
+  pub parent : (c : ℕ) → c < couples m → ParentOrNone m c (getD P c 0)
 
 -- the state in which settings end
 abbrev endFrom : Machine → ℕ → List ℕ → ℕ
@@ -48,36 +57,32 @@ module _ (m : Machine) where
 state-is : (m : Machine) {c s v : ℕ} → c ≡ couple m s v → v < size m → c / size m ≡ s
 state-is m {c} {s} {v} e h = ap (λ (k : ℕ). k / size m) e ∙ digits-div s h
 
--- a parent rests
-parent-rests : {m : Machine} {r c p : ℕ} → Parent m r c p → getD (m .table) p 0 ≡ p / size m
-parent-rests {m} b =
-    let s = b .steps in
-    ap (λ (k : ℕ). getD (m .table) k 0) (s .here) ∙ s .rests ∙ sym (state-is m (s .here) (s .below))
+-- a couple from which a change goes rests
+rests-there : {m : Machine} {c p : ℕ} → Steps m p c → getD (m .table) p 0 ≡ p / size m
+rests-there {m} s = ap (λ (k : ℕ). getD (m .table) k 0) (s .here) ∙ s .rests ∙ sym (state-is m (s .here) (s .below))
 
--- a couple of rank 0 is the initial state's
-first : (m : Machine) {c : ℕ} → Rank m c 0 → c / size m ≡ m .initial
-first m {c} y = go (y .some) (y .visitor) (y .changes)
-  where
-    go : (vs : List ℕ) → Visitor m c vs → length vs ≡ 1 → c / size m ≡ m .initial
-    go [] u e = absurd (omega arith)
-    go (v ∷ w ∷ vs) u e = absurd (omega arith)
-    go (v ∷ []) u e = ⊎-elim (λ (i : c ≡ couple m (m .initial) v). state-is m i (u .run .0 .below)) absurd (u .sees)
+-- without changes the couple is the initial state's
+first : {m : Machine} {c : ℕ} → Away m c 0 → c / size m ≡ m .initial
+first {m} y = let (v, s, e) = away-starts y in state-is m e (s .below)
 
-module _ (m : Machine) {R P : List ℕ} (x : Listed m R P) where
+module _ {m : Machine} {W P : List ℕ} (x : Told m W P) where
   abbrev chain : ℕ → ℕ → List ℕ
   chain c n = settings P (size m) c n
 
   chain-some : (c n : ℕ) → 0 < length (chain c (suc n))
   chain-some c n = rw (length-settings P (size m) (suc n) c) (omega arith)
 
+  -- one couple back along the chain
+  pub chain-back : (c r : ℕ) → Away m c (suc r) → Steps m (getD P c 0) c × Away m (getD P c 0) r
+  chain-back = away-back (x .sound) (x .few) W P (x .weight) (x .parent)
+
   -- the settings of a resting couple's chain end in its state
-  ends-at : (r c : ℕ) → Rank m c r → getD (m .table) c 0 ≡ c / size m → ends m (chain c (suc r)) ≡ c / size m
-  ends-at zero c y q = rw (settings-more, settings-none) (sym (first m y))
+  ends-at : (r c : ℕ) → Away m c r → getD (m .table) c 0 ≡ c / size m → ends m (chain c (suc r)) ≡ c / size m
+  ends-at zero c y q = rw (settings-more, settings-none) (sym (first y))
   ends-at (suc r) c y q =
       let p = getD P c 0 in
-      let b = x .parent r c y in
-      let s = b .steps in
-      let i = ends-at r p (b .rank) (parent-rests b) in
+      let (s, b) = chain-back c r y in
+      let i = ends-at r p b (rests-there s) in
       rw (settings-more P (size m) c (suc r))
       (ends-more m (c % size m) (chain p (suc r)) (chain-some p r)
       ∙ ap₂ (λ (j k : ℕ). move m j k) (i ∙ state-is m (s .here) (s .below)) (stepped s)
@@ -87,15 +92,15 @@ module _ (m : Machine) {R P : List ℕ} (x : Listed m R P) where
       (s .visits))
 
   -- what the first setting visits
-  pub visits-first : (c : ℕ) → Rank m c 0 → visits m (chain c 1) ≡ c ∷ []
+  pub visits-first : (c : ℕ) → Away m c 0 → visits m (chain c 1) ≡ c ∷ []
   visits-first c y =
-      rw (settings-more, settings-none) (ap (λ (k : ℕ). k ∷ []) (ap (λ (s : ℕ). couple m s (c % size m)) (sym (first m y)) ∙ div-add-mod' c (size m)))
+      rw (settings-more, settings-none) (ap (λ (k : ℕ). k ∷ []) (ap (λ (s : ℕ). couple m s (c % size m)) (sym (first y)) ∙ div-add-mod' c (size m)))
 
   -- and the last change
-  pub visits-last : (r c : ℕ) → Rank m c (suc r)
+  pub visits-last : (r c : ℕ) → Away m c (suc r)
       → let s = getD P c 0 / size m in
       visits m (chain c (suc (suc r))) ≡ visits m (chain (getD P c 0) (suc r)) ++ (couple m s (c % size m) ∷ couple m (move m s (c % size m)) (c % size m) ∷ [])
   visits-last r c y =
       let p = getD P c 0 in
-      let b = x .parent r c y in
-      rw (settings-more P (size m) c (suc r), ← ends-at r p (b .rank) (parent-rests b)) (visits-more m (c % size m) (chain p (suc r)) (chain-some p r))
+      let (s, b) = chain-back c r y in
+      rw (settings-more P (size m) c (suc r), ← ends-at r p b (rests-there s)) (visits-more m (c % size m) (chain p (suc r)) (chain-some p r))

@@ -1,2 +1,3 @@
 pub mod Planning
+pub mod Multi
 pub mod inner

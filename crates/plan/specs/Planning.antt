@@ -43,23 +43,23 @@ pub record RunAs (m : Machine) (c : ℕ) (ranks₀ run₀ : List ℕ) (a : Answe
 abbrev pub PlanBytes : Machine → List ℕ → Type 0
 PlanBytes m w = (plan : List (List ℕ)) × Plan m (couples m) plan × (w ≡ stored plan)
 
--- refusal 16 of a plan: bytes needed for the whole plan
-abbrev pub ShortPlan : Machine → ℕ → ℕ → Type 0
-ShortPlan m room p = (w : List ℕ) × PlanBytes m w × Short (length w) room p
+-- refusal 16 of what is written whole or not at all: bytes needed for the whole
+abbrev pub ShortOf : (List ℕ → Type 0) → ℕ → ℕ → Type 0
+ShortOf Is room p = (w : List ℕ) × Is w × Short (length w) room p
+
+-- its success: the bytes written
+pub record WholeDone (Is : List ℕ → Type 0) (a : Answer) : Type 0 where
+  pub number : a .number ≡ 0
+  pub bytes : List ℕ
+  pub is : Is bytes
+  pub place : a .place ≡ length bytes
 
 -- the checks of the plan: as marking, then 16
 abbrev pub planChecks : Machine → ℕ → ℕ → List Check
-planChecks m ranks plan = markChecks m ranks ++ check 16 (ShortPlan m plan) ∷ []
-
--- success: the bytes written
-pub record PlanDone (m : Machine) (a : Answer) : Type 0 where
-  pub number : a .number ≡ 0
-  pub bytes : List ℕ
-  pub planned : PlanBytes m bytes
-  pub place : a .place ≡ length bytes
+planChecks m ranks plan = markChecks m ranks ++ check 16 (ShortOf (PlanBytes m) plan) ∷ []
 
 -- the promise of the plan: the verdict, the ranks, and the plan's bytes
 pub record PlannedAs (m : Machine) (ranks₀ plan₀ : List ℕ) (a : Answer) (ranks₁ plan₁ : List ℕ) : Type 0 where
-  pub verdict : Judged (planChecks m (length ranks₀) (length plan₀)) (PlanDone m) a
+  pub verdict : Judged (planChecks m (length ranks₀) (length plan₀)) (WholeDone (PlanBytes m)) a
   pub ranks : Left (a .number) (couples m) unmarked (RankOrUnmarked m) ranks₀ ranks₁
   pub plan : Written (a .number) (PlanBytes m) plan₀ plan₁

@@ -1,4 +1,4 @@
--- The promise of expected readings leaves one outcome: the checks have one verdict, and the readings of a run are one list.
+-- The promise of expected readings leaves one outcome, of any machine: the checks have one verdict, the readings of a run are one list.
 use mathlib.Core.Path.{_≡_, sym, ap, _∙_}
 use mathlib.Core.List.{List}
 use Prim.Native.Nat.{ℕ}

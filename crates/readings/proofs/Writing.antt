@@ -8,18 +8,7 @@ use native.Mathlib.Numerals.{add-one, add-two}
 use lib.ListN.{length, drop, set, getD}
 use lib.Seq.{sets, sets-eq, drop-cons}
 use Rattle.verdict.specs.Buffers.{Front}
-use Rattle.machine.specs.Runs.{Machine, size}
 use Rattle.machine.specs.Boards.{Board, readings, readingsFrom}
-use Rattle.machine.proofs.Stored.{setting-below, run-some}
-use Rattle.readings.specs.inner.Walking.{Walkable}
-
--- a run has settings, each below the size
-module _ {m : Machine} {words : ℕ} {run : List ℕ} {room : ℕ} (x : Walkable m words run room) where
-  pub some : 0 < length run
-  some = run-some m run (x .is)
-
-  pub below : (i : ℕ) → i < length run → getD run i 0 < size m
-  below i l = setting-below m run (x .is) i l
 
 -- the start's reading, and those of the settings after it
 pub write-start : (b : Board) (run out : List ℕ) → 0 < length run

@@ -1,10 +1,11 @@
 // Expected readings (document 01, "Runs and ranks"): what a board that moves as the specification says shows on a run.
 ghost use mathlib.Core.Path.{_≡_};
+ghost use mathlib.Core.Bool.{Bool, true};
 ghost use Prim.Native.Nat.{ℕ, _+_, _<_, _≤_, _^_};
 ghost use lib.ListN.{length, getD, set};
 ghost use Rattle.verdict.specs.Checks.{Judged, Passed};
 ghost use Rattle.verdict.specs.Buffers.{Front};
-ghost use Rattle.machine.specs.Runs.{machineOf, move};
+ghost use Rattle.machine.specs.Runs.{machineOf, machineBy, move};
 ghost use Rattle.machine.specs.Boards.{readings as readingsOn, specified};
 ghost use Rattle.tables.specs.inner.Fits.{Checked};
 ghost use Rattle.readings.specs.Expected.{readingsNeeded, shapeChecks, ExpectedAs};
@@ -33,6 +34,33 @@ pub fn expected(
 ) -> Answer
     ensures { λ r. ⌜ ExpectedAs (machineOf frame (now (table .entry))) (now (words .entry)) (now (run .entry)) (now (readings .entry)) r (now (readings .exit)) ⌝ }
 {
+    expected_by(frame, false, table, words, run, readings)
+}
+
+// The same of a run that may change several inputs at once.
+pub fn multi_expected(
+    frame: Frame,
+    table: &[u8],
+    words: &[u16],
+    run: &[u8],
+    readings: &mut [u16],
+) -> Answer
+    ensures { λ r. ⌜ ExpectedAs (machineBy true frame (now (table .entry))) (now (words .entry)) (now (run .entry)) (now (readings .entry)) r (now (readings .exit)) ⌝ }
+{
+    expected_by(frame, true, table, words, run, readings)
+}
+
+// Both: several inputs may change at once, or one at a time.
+fn expected_by(
+    frame: Frame,
+    several: bool,
+    table: &[u8],
+    words: &[u16],
+    run: &[u8],
+    readings: &mut [u16],
+) -> Answer
+    ensures { λ r. ⌜ ExpectedAs (machineBy several frame (now (table .entry))) (now (words .entry)) (now (run .entry)) (now (readings .entry)) r (now (readings .exit)) ⌝ }
+{
     let shape = check_shape(frame, table, words, run, readings.len());
     if shape.number != 0 {
         return shape;
@@ -41,7 +69,7 @@ pub fn expected(
     if moves.number != 0 {
         return moves;
     }
-    let faults = check_run(frame, table, run);
+    let faults = check_run(frame, several, table, run);
     if faults.number != 0 {
         return faults;
     }
@@ -54,7 +82,7 @@ pub fn expected(
 
 // Refusals 2 and 3, with room for so many readings.
 fn check_shape(frame: Frame, table: &[u8], words: &[u16], run: &[u8], room: usize) -> Answer
-    ensures { λ r. ⌜ Judged (shapeChecks (machineOf frame (now (table .entry))) (length (now (words .entry))) (now (run .entry)) room) Passed r ⌝ }
+    ensures { λ r. ⌜ ((several : Bool) → Judged (shapeChecks (machineBy several frame (now (table .entry))) (length (now (words .entry))) (now (run .entry)) room) Passed r) ⌝ }
 {
     if !sized(frame) {
         return Answer {

@@ -1,4 +1,4 @@
--- The promises of this crate leave one answer: a list of checks has one verdict; the others are equations.
+-- The promises of this crate leave one answer, of any machine: a list of checks has one verdict; the others are equations.
 use mathlib.Core.Path.{_≡_}
 use mathlib.Core.List.{List}
 use Prim.Native.Nat.{ℕ}

@@ -35,12 +35,20 @@ begins plan at h =
     let two : at + 2 ≡ suc (suc at) = omega arith in
     rw (one, two, drop-cons plan at 0 (omega arith), drop-cons plan (suc at) 0 (omega arith))
 
--- the run at a byte ends where its count says, at the latest with the plan
-pub next-run : (plan : List ℕ) (at : ℕ) {end : ℕ} → end ≡ storedEnd plan at → at + 2 ≤ length plan
-    → runsIn (drop at plan) ≡ take (end - (at + 2)) (drop (at + 2) plan) ∷ runsIn (drop end plan)
-next-run plan at {end} e h =
+-- the settings of the run at a byte, and what stands behind it: it ends where its count says, at the latest with the plan
+pub run-parts : (plan : List ℕ) (at : ℕ) {end : ℕ} → end ≡ storedEnd plan at → at + 2 ≤ length plan
+    → (take (settingsAt plan at) (drop (at + 2) plan) ≡ take (end - (at + 2)) (drop (at + 2) plan))
+    × (drop (settingsAt plan at) (drop (at + 2) plan) ≡ drop end plan)
+run-parts plan at {end} e h =
     let parts = cut (settingsAt plan at) (end - (at + 2)) (drop (at + 2) plan) (rw length-drop (omega arith)) in
     let all : at + 2 + (end - (at + 2)) ≡ end = omega arith in
+    (parts .0, parts .1 ∙ drop-drop (end - (at + 2)) (at + 2) plan ∙ ap (λ (k : ℕ). drop k plan) all)
+
+-- the run at a byte, and those behind it
+pub next-run : (plan : List ℕ) (at : ℕ) {end : ℕ} → end ≡ storedEnd plan at → at + 2 ≤ length plan
+    → runsIn (drop at plan) ≡ take (end - (at + 2)) (drop (at + 2) plan) ∷ runsIn (drop end plan)
+next-run plan at e h =
+    let (run, rest) = run-parts plan at e h in
     ap runsIn (begins plan at h)
     ∙ runs-first (getD plan at 0) (getD plan (at + 1) 0) (drop (at + 2) plan)
-    ∙ ap₂ (λ (run rest : List ℕ). run ∷ runsIn rest) (parts .0) (parts .1 ∙ drop-drop (end - (at + 2)) (at + 2) plan ∙ ap (λ (k : ℕ). drop k plan) all)
+    ∙ ap₂ (λ (run rest : List ℕ). run ∷ runsIn rest) run rest

@@ -98,7 +98,7 @@ fn next_start(frame: Frame, table: &[u8], plan: &[u8], at: usize) -> Found
     let Found::At(end) = whole_end(plan, at) else {
         return Found::Nothing;
     };
-    let Found::Nothing = first_fault(frame, table, &plan[at + 2..end]) else {
+    let Found::Nothing = first_fault(frame, false, table, &plan[at + 2..end]) else {
         return Found::Nothing;
     };
     Found::At(end)

@@ -1,36 +1,40 @@
--- Choosing the couples of a plan, over flags of the couples that its runs visit.
+-- Choosing the couples of a plan or list, over flags of the couples that its runs visit.
 use mathlib.Core.Path.{_≡_}
 use mathlib.Core.List.{List, [], _++_}
 use mathlib.Core.Bool.{Bool, true, false, not, cond}
 use Prim.Native.Nat.{ℕ, zero, suc, _+_, _*_, _/_, _%_, _≤_, _<_}
 use lib.ListN.{length, getD, set, replicate}
-use lib.Dec.{eqb}
+use lib.Dec.{eqb, leb}
 use Rattle.machine.specs.Limits.{mostCouples, unmarked}
-use Rattle.machine.specs.Plans.{storedRun}
-use Rattle.plan.specs.inner.Writing.{settings, Tree}
+use Rattle.several.specs.Weights.{extra, unweighed}
+use Rattle.plan.specs.inner.Writing.{storedBy, Tree}
 
 -- the couples that a change from couple p to setting v visits, noted
 unfoldable pub notedChange : List ℕ → ℕ → ℕ → ℕ → List Bool → List Bool
 notedChange table size p v visited =
     set (set visited (p / size * size + v) true) (getD table (p / size * size + v) 0 * size + v) true
 
--- those that the run to couple c of rank r visits, noted from its end
+-- those that the run to couple c, of so many changes, visits, noted from its end
 unfoldable pub notedRun : List ℕ → List ℕ → ℕ → ℕ → ℕ → List Bool → List Bool
 notedRun table parents size c zero visited = set visited c true
 notedRun table parents size c (suc r) visited =
     notedRun table parents size (getD parents c 0) r (notedChange table size (getD parents c 0) (c % size) visited)
 
--- couple c is marked, and no run has visited it yet
-unfoldable pub wanted : List ℕ → List Bool → ℕ → Bool
-wanted ranks visited c = cond (eqb (getD ranks c 0) unmarked) false (not (getD visited c false))
+-- the plan looks at a couple of weight w: some run visits it; the list, if no run of single changes does
+unfoldable pub looksAt : Bool → ℕ → Bool
+looksAt several w = cond (eqb w unweighed) false (cond several (leb extra w) true)
 
-module _ (table parents ranks : List ℕ) (size : ℕ) where
+-- couple c is one of these, and no run has visited it yet
+unfoldable pub wanted : Bool → List ℕ → List Bool → ℕ → Bool
+wanted several weights visited c = cond (looksAt several (getD weights c 0)) (not (getD visited c false)) false
+
+module _ (several : Bool) (table parents weights : List ℕ) (size : ℕ) where
   -- couple c in its turn: what is visited after it, and the bytes of its stored run
   unfoldable pub notedAt : ℕ → List Bool → List Bool
-  notedAt c visited = cond (wanted ranks visited c) (notedRun table parents size c (getD ranks c 0) visited) visited
+  notedAt c visited = cond (wanted several weights visited c) (notedRun table parents size c (getD weights c 0 % extra) visited) visited
 
   unfoldable pub bytesAt : ℕ → List Bool → ℕ
-  bytesAt c visited = cond (wanted ranks visited c) (getD ranks c 0 + 3) 0
+  bytesAt c visited = cond (wanted several weights visited c) (getD weights c 0 % extra + cond several 5 3) 0
 
   -- the first c couples in rising number, each so: what is visited, which are chosen, the bytes of the stored runs
   unfoldable pub noted : ℕ → List Bool → List Bool
@@ -39,7 +43,7 @@ module _ (table parents ranks : List ℕ) (size : ℕ) where
 
   unfoldable pub flags : ℕ → List Bool → List Bool → List Bool
   flags zero visited chosen = chosen
-  flags (suc c) visited chosen = set (flags c visited chosen) c (wanted ranks (noted c visited) c)
+  flags (suc c) visited chosen = set (flags c visited chosen) c (wanted several weights (noted c visited) c)
 
   unfoldable pub bytes : ℕ → List Bool → ℕ
   bytes zero visited = 0
@@ -49,19 +53,19 @@ module _ (table parents ranks : List ℕ) (size : ℕ) where
   unfoldable pub plan : ℕ → List Bool → List ℕ
   plan zero visited = []
   plan (suc c) visited =
-      plan c visited ++ cond (wanted ranks (noted c visited) c) (storedRun (settings parents size c (getD ranks c 0 + 1))) []
+      plan c visited ++ cond (wanted several weights (noted c visited) c) (storedBy several parents size c (getD weights c 0)) []
 
   -- couple c in its turn took flags of visited and chosen couples from the first two lists to the last two, and n bytes
   pub record Turn (c n : ℕ) (visited chosen visited′ chosen′ : List Bool) : Type 0 where
     pub bytes-are : n ≡ bytesAt c visited
-    pub bytes-few : n ≤ unmarked + 3
+    pub bytes-few : n ≤ unmarked + 5
     pub visited-are : visited′ ≡ notedAt c visited
-    pub chosen-are : chosen′ ≡ set chosen c (wanted ranks visited c)
+    pub chosen-are : chosen′ ≡ set chosen c (wanted several weights visited c)
 
   -- and so did the first c couples
   pub record Chosen (c n : ℕ) (visited chosen visited′ chosen′ : List Bool) : Type 0 where
     pub bytes-are : n ≡ bytes c visited
-    pub bytes-few : n ≤ c * (unmarked + 3)
+    pub bytes-few : n ≤ c * (unmarked + 5)
     pub visited-are : visited′ ≡ noted c visited
     pub chosen-are : chosen′ ≡ flags c visited chosen
 
@@ -86,6 +90,6 @@ pub record RoomFor (table parents : List ℕ) (size flags c : ℕ) : Type 0 wher
   pub room : Room table parents size flags total
   pub below : c < total
 
--- the stored plan of t couples, none of which is visited before
-abbrev pub wholePlan : List ℕ → List ℕ → List ℕ → ℕ → ℕ → List ℕ
-wholePlan table parents ranks size t = plan table parents ranks size t (replicate mostCouples false)
+-- the stored plan or list of t couples, none of which is visited before
+abbrev pub wholePlan : Bool → List ℕ → List ℕ → List ℕ → ℕ → ℕ → List ℕ
+wholePlan several table parents weights size t = plan several table parents weights size t (replicate mostCouples false)

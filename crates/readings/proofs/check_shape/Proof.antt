@@ -13,10 +13,10 @@ use Rattle.readings.proofs.check_shape.Statement.{statement}
 use Rattle.readings.proofs.check_shape.Tie as tie
 
 returns : tie.Need-returns
-returns c = halt (whole (λ x. c .before .sized .ensures .fails (not-true _ (c .if1 .taken)) (x .sizes)))
+returns c = λ several. halt (whole (λ x. c .before .sized .ensures .fails (not-true _ (c .if1 .taken)) (x .sizes)))
 
 returns-2 : tie.Need-returns-2
-returns-2 c = halt (whole (λ x. omega (arith, x .few-settings)))
+returns-2 c = λ several. halt (whole (λ x. omega (arith, x .few-settings)))
 
 mul-t12 : tie.Need-mul-t12
 mul-t12 c =
@@ -24,7 +24,7 @@ mul-t12 c =
     omega (arith, couples-are z (c .before .settings .ensures .0 .0), couples-few z)
 
 returns-3 : tie.Need-returns-3
-returns-3 c =
+returns-3 c = λ several.
     let a = c .before .before .before .before .before .before .before .before .before .before .args in
     let z = c .before .before .before .before .before .before .sized .ensures .holds (not-false _ (c .before .before .before .before .before .if1 .left)) in
     pass (meets (record { sizes = z; few-settings = c .before .before .before .before .if2 .left }))

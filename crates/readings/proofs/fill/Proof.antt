@@ -9,7 +9,7 @@ use Rattle.machine.specs.Runs.{machineOf}
 use Rattle.machine.specs.Boards.{Board, readingsFrom, specified}
 use Rattle.machine.proofs.Readings.{length-readings}
 use Rattle.machine.proofs.Couples.{moves}
-use Rattle.readings.proofs.Writing.{some, below, write-start, write-more, written-front}
+use Rattle.readings.proofs.Writing.{write-start, write-more, written-front}
 use Rattle.readings.proofs.fill.Statement.{statement}
 use Rattle.readings.proofs.fill.Tie as tie
 
@@ -22,23 +22,23 @@ abbrev μ-loop : tie.MeasureT-loop
 μ-loop frame table words run readings₀ s₀ p₀ i₀ readings s p i = length run - i
 
 move-at-requires : tie.Need-move-at-requires Inv-loop μ-loop
-move-at-requires c κs = (c .before .before .before .before .before .pre .checked, c .before .before .before .before .before .pre .checked .sound .begins, rw (c .setting .ensures .0) (below (c .before .before .before .before .before .pre) 0 (some (c .before .before .before .before .before .pre))))
+move-at-requires c κs = (c .before .before .before .before .before .pre .checked, c .before .before .before .before .before .pre .checked .sound .begins, rw (c .setting .ensures .0) (c .before .before .before .before .before .pre .below 0 (c .before .before .before .before .before .pre .some)))
 
 slice-write-readings : tie.Need-slice-write-readings Inv-loop μ-loop
-slice-write-readings c = omega (arith, some (c .before .before .before .before .before .before .before .pre), c .before .before .before .before .before .before .before .pre .fits)
+slice-write-readings c = omega (arith, c .before .before .before .before .before .before .before .pre .some, c .before .before .before .before .before .before .before .pre .fits)
 
 loop-holds : tie.Need-loop-holds Inv-loop μ-loop
-loop-holds c = (omega arith, some (c .before .before .before .before .before .before .before .pre), refl, c .before .move-at .ensures .1, refl, refl)
+loop-holds c = (omega arith, c .before .before .before .before .before .before .before .pre .some, refl, c .before .move-at .ensures .1, refl, refl)
 
 read-two-requires : tie.Need-read-two-requires Inv-loop μ-loop
 read-two-requires c κs =
     let l : c .before .before .before .loop .p + 1 < length (c .before .before .before .loop .readings) = omega (arith, simp length-set at (c .before .before .before .loop .inv .4), c .before .before .before .before .before .before .before .before .before .before .before .pre .fits) in
-    (c .before .before .before .before .before .before .before .before .before .before .before .pre .checked, c .before .before .before .before .before .before .before .before .before .before .before .pre .worded, c .before .before .before .loop .inv .3, rw (c .before .setting2 .ensures .0) (below (c .before .before .before .before .before .before .before .before .before .before .before .pre) (c .before .before .before .loop .i) (c .before .before .loop-test .taken)), l)
+    (c .before .before .before .before .before .before .before .before .before .before .before .pre .checked, c .before .before .before .before .before .before .before .before .before .before .before .pre .worded, c .before .before .before .loop .inv .3, rw (c .before .setting2 .ensures .0) (c .before .before .before .before .before .before .before .before .before .before .before .pre .below (c .before .before .before .loop .i) (c .before .before .loop-test .taken)), l)
 
 loop-again : tie.Need-loop-again Inv-loop μ-loop
 loop-again c =
     let a = c .before .before .before .before .before .before .before .before .before .before .before .before .before .before .args in
-    let l = below (c .before .before .before .before .before .before .before .before .before .before .before .before .before .before .pre) (c .before .before .before .before .before .before .loop .i) (c .before .before .before .before .before .loop-test .taken) in
+    let l = c .before .before .before .before .before .before .before .before .before .before .before .before .before .before .pre .below (c .before .before .before .before .before .before .loop .i) (c .before .before .before .before .before .loop-test .taken) in
     let ok = c .before .before .before .before .before .before .before .before .before .before .before .before .before .before .pre .checked .sound in
     let e = c .before .before .before .before .setting2 .ensures .0 in
     let r = c .before .before .read-two .ensures in (
@@ -60,7 +60,7 @@ returns c =
     let e : c .before .loop .i ≡ length (a .run .now) = omega arith in
     let f = c .before .before .before .move-at .ensures .0 in
     let g = c .before .before .before .before .setting .ensures .0 in
-    written-front _ _ _ (omega (arith, length-readings b (a .run .now), c .before .before .before .before .before .before .before .before .before .pre .fits)) (rw (e, drop-length) at (c .before .loop .inv .5) ∙ rw (f, g) (write-start b (a .run .now) (a .readings .now) (some (c .before .before .before .before .before .before .before .before .before .pre))))
+    written-front _ _ _ (omega (arith, length-readings b (a .run .now), c .before .before .before .before .before .before .before .before .before .pre .fits)) (rw (e, drop-length) at (c .before .loop .inv .5) ∙ rw (f, g) (write-start b (a .run .now) (a .readings .now) (c .before .before .before .before .before .before .before .before .before .pre .some)))
 
 pub fill-spec : {M : Type 1} → statement M
 fill-spec =

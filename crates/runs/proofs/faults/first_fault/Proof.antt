@@ -4,7 +4,7 @@ use native.Mathlib.Omega.{arith}
 use Prim.Native.Nat.{_-_, _≤_}
 use lib.ListN.{length}
 use Rattle.verdict.proofs.Tests.{decides-map, Unseen, unseen-start, unseen-more, unseen-here, unseen-end}
-use Rattle.machine.specs.Runs.{machineOf, Fault}
+use Rattle.machine.specs.Runs.{machineBy, Fault}
 use Rattle.machine.specs.Runs.Fault.{empty}
 use Rattle.machine.proofs.Sizes.{settings-are}
 use Rattle.runs.proofs.Indices.{at-start, at-change, faultless-below, fault-inside}
@@ -12,10 +12,10 @@ use Rattle.runs.proofs.faults.first_fault.Statement.{statement}
 use Rattle.runs.proofs.faults.first_fault.Tie as tie
 
 abbrev Inv-loop : tie.InvT-loop
-Inv-loop frame table run m i₀ i-end i = (1 ≤ i) × (i ≤ length run) × Unseen (Fault (machineOf frame table) run) i
+Inv-loop frame several table run m i₀ i-end i = (1 ≤ i) × (i ≤ length run) × Unseen (Fault (machineBy several frame table) run) i
 
 abbrev μ-loop : tie.MeasureT-loop
-μ-loop frame table run m i₀ i-end i = length run - i
+μ-loop frame several table run m i₀ i-end i = length run - i
 
 returns : tie.Need-returns Inv-loop μ-loop
 returns c = unseen-here unseen-start (empty (c .if1 .taken))
