@@ -1,6 +1,7 @@
 -- A file has one text: reading it has one answer and one character with it, and where that is success one frame, one table, one list of
--- ranks and one plan. So printing it leaves one count and one buffer.
+-- ranks, one plan and one list. So printing it leaves one count and one buffer.
 use mathlib.Core.Path.{_≡_, refl, sym, ap, ap₂, subst, subst₂, _∙_}
+use mathlib.Core.Bool.{true}
 use mathlib.Core.List.{List}
 use Prim.Native.Nat.{ℕ}
 use native.Mathlib.Nat.{le-refl}
@@ -9,7 +10,7 @@ use Rattle.verdict.proofs.Order.{judged-unique}
 use Rattle.show.specs.Sheet.{refusalText}
 use Rattle.show.specs.Written.{over, written}
 use Rattle.show.specs.declared.Written.the-variants.{All}
-use Rattle.machine.specs.Runs.{machineOf}
+use Rattle.machine.specs.Runs.{machineBy}
 use Rattle.machine.specs.declared.Frame.{Frame}
 use Rattle.specification.specs.Records.{sizesOf}
 use Rattle.specification.specs.Reading.{CharacterFor}
@@ -28,7 +29,7 @@ sheet-once (refused v x n) (read w j u y) = absurd (n (ap (λ (a : Answer). a .n
 sheet-once (read v i t x) (refused w y o) = absurd (o (ap (λ (a : Answer). a .number) (judged-unique w v)))
 sheet-once {file} (read v i t x) (read {text = text} w j u y) =
     text-once (planned v i t (le-refl _) .checked .sound) x
-    (subst₂ (λ (f : Frame) table. PlanText (machineOf f table) text) (frame-only j i) (table-once v refl u t) y)
+    (subst₂ (λ (f : Frame) table. PlanText (machineBy true f table) text) (frame-only j i) (table-once v refl u t) y)
 
 pub only : {file : List ℕ} {n k : ℕ} {before a b : List ℕ} → Prints (SheetOf file) n before a → Prints (SheetOf file) k before b → (n ≡ k) × (a ≡ b)
 only {n = n} {k = k} {before} x y =

@@ -4,6 +4,7 @@ use libc::STDOUT_FILENO;
 use machine::COUPLES;
 use machine::Frame;
 use machine::STATES;
+use plan::multi_list;
 use plan::plan;
 use show::Written;
 use show::refusal;
@@ -11,9 +12,10 @@ use show::sheet;
 use specification::read_here;
 use verdict::Answer;
 ghost use mathlib.Core.Path.{_≡_};
+ghost use mathlib.Core.Bool.{true};
 ghost use Prim.Native.Nat.{_≤_};
 ghost use lib.ListN.{length};
-ghost use Rattle.machine.specs.Runs.{machineOf};
+ghost use Rattle.machine.specs.Runs.{machineBy};
 ghost use Rattle.show.specs.declared.Written.the-variants.{All};
 ghost use Rattle.show.specs.Sheet.{refusalText};
 ghost use Rattle.show.specs.Written.{Writes};
@@ -25,8 +27,10 @@ const FILE: usize = specification::BYTES + 1;
 
 const PLAN: usize = 65536;
 
-// Room for every text: the first line, a line for each rank, and at most 5 letters for each byte of the plan.
-const TEXT: usize = 46 + 17 * COUPLES + 5 * PLAN;
+const LIST: usize = 65536;
+
+// Room for every text: the first line, a line for each rank, at most 5 letters for each byte of the plan and 4 for each of the list.
+const TEXT: usize = 46 + 17 * COUPLES + 5 * PLAN + 4 * LIST;
 
 // So many bytes came from standard input, or a read failed.
 enum Input {
@@ -94,22 +98,29 @@ fn write_sheet(file: &[u8], text: &mut [u8]) -> usize
 
 // Writes the text that is printed for a machine, and answers how many bytes it has.
 fn write_plan(frame: Frame, table: &[u8], text: &mut [u8]) -> usize
-    requires { ⌜ Ready (machineOf frame (now table)) (length (now text)) ⌝ }
-    ensures { λ r. ⌜ Prints (PlanText (machineOf frame (now (table .entry)))) r (now (text .entry)) (now (text .exit)) ⌝ }
+    requires { ⌜ Ready (machineBy true frame (now table)) (length (now text)) ⌝ }
+    ensures { λ r. ⌜ Prints (PlanText (machineBy true frame (now (table .entry)))) r (now (text .entry)) (now (text .exit)) ⌝ }
 {
     let mut ranks = [0u16; COUPLES];
     let mut runs = [0u8; PLAN];
-    let answer = plan(frame, table, &mut ranks, &mut runs);
-    if answer.number != 0 {
-        return write_refusal(answer, 0, text);
+    let planned = plan(frame, table, &mut ranks, &mut runs);
+    if planned.number != 0 {
+        return write_refusal(planned, 0, text);
+    }
+    let mut list = [0u8; LIST];
+    let listed = multi_list(frame, table, &mut ranks, &mut list);
+    if listed.number != 0 {
+        return write_refusal(listed, 0, text);
     }
     let couples = table.len();
-    let end = answer.place;
+    let end = planned.place;
+    let list_end = listed.place;
     whole(sheet(
         frame.inputs,
         frame.states,
         &ranks[0..couples],
         &runs[0..end],
+        &list[0..list_end],
         text,
     ))
 }

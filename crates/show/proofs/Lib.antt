@@ -2,6 +2,7 @@ pub mod Counts
 pub mod Digits
 pub mod Examples
 pub mod Lists
+pub mod Multi
 pub mod Only
 pub mod Over
 pub mod Room

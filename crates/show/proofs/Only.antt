@@ -14,9 +14,9 @@ pub record Same (r r′ : Written) (b b′ : List ℕ) : Type 0 where
 writes-only : (text before : List ℕ) {r r′ : Written} {b b′ : List ℕ} → Writes text r before b → Writes text r′ before b′ → Same r r′ b b′
 writes-only text before w w′ = record { answer = w .answered ∙ sym (w′ .answered); buffer = w .bytes ∙ sym (w′ .bytes) }
 
-pub sheet-only : (inputs states : ℕ) (ranks plan before : List ℕ) {r r′ : Written} {b b′ : List ℕ}
-    → Writes (sheetText inputs states ranks plan) r before b → Writes (sheetText inputs states ranks plan) r′ before b′ → Same r r′ b b′
-sheet-only inputs states ranks plan before = writes-only (sheetText inputs states ranks plan) before
+pub sheet-only : (inputs states : ℕ) (ranks plan list before : List ℕ) {r r′ : Written} {b b′ : List ℕ}
+    → Writes (sheetText inputs states ranks plan list) r before b → Writes (sheetText inputs states ranks plan list) r′ before b′ → Same r r′ b b′
+sheet-only inputs states ranks plan list before = writes-only (sheetText inputs states ranks plan list) before
 
 pub refusal-only : (number place character : ℕ) (before : List ℕ) {r r′ : Written} {b b′ : List ℕ}
     → Writes (refusalText number place character) r before b → Writes (refusalText number place character) r′ before b′ → Same r r′ b b′

@@ -1,5 +1,7 @@
--- The longest sheet: 46 bytes for the first line, 17 for each couple and 5 for each byte of the plan, with numbers of at most 5 digits.
--- A number has as many digits as its tenth part and one more; a run's line has at most 5 bytes for each byte that stores it.
+-- The longest sheet: 46 bytes for the first line, 17 for each couple, 5 for each byte of the plan and 4 for each byte of the list apart
+-- from it, with numbers of at most 5 digits.
+-- A number has as many digits as its tenth part and one more; a line of the plan has at most 5 bytes for each byte that stores its run,
+-- one of the list at most 4.
 -- The line of a refusal is short. By induction on the ranks, on the settings and on the runs.
 use mathlib.Core.Path.{_≡_, refl, sym, ap, _∙_}
 use mathlib.Core.Bool.{Bool, true, false, cond}
@@ -14,8 +16,9 @@ use borrow.Author.Tests.{ltb-true, ltb-false, eq-eqb}
 use Rattle.basics.specs.Texts.{letters}
 use Rattle.machine.specs.Limits.{unmarked}
 use Rattle.machine.specs.Plans.{split}
+use Rattle.several.specs.Lists.{splitList}
 use Rattle.show.specs.Digits.{digits}
-use Rattle.show.specs.Sheet.{countOf, markedIn, ranksIn, fieldsBehind, line, firstLine, rankLines, runLines, sheetText, refusalText}
+use Rattle.show.specs.Sheet.{countOf, markedIn, ranksIn, fieldsBehind, line, firstLine, rankLines, runLines, multiLines, sheetText, refusalText}
 use Rattle.show.proofs.Digits.{digits-one, digits-more}
 use Rattle.show.proofs.Counts.{count-fits, marked-rest}
 
@@ -52,6 +55,10 @@ bytes-drop zero l h = h
 bytes-drop (suc n) [] h = tt
 bytes-drop (suc n) (x ∷ l) h = bytes-drop n l (h .1)
 
+-- a list cut in two
+cut : (n : ℕ) (l : List ℕ) → length (take n l) + length (drop n l) ≡ length l
+cut n l = sym (length-append (take n l) (drop n l)) ∙ ap length (take-append-drop n l)
+
 settings-room : (l : List ℕ) → Bytes l → length (fieldsBehind (map digits l)) ≤ 4 * length l + 1
 settings-room [] h = omega arith
 settings-room (x ∷ l) h = simp length-append (omega (arith, room-up 2 x (omega (arith, h .0)), settings-room l (h .1)))
@@ -62,10 +69,19 @@ runs-room (suc f) k [] h b = omega arith
 runs-room (suc f) k (low ∷ []) h b = omega arith
 runs-room (suc f) k (low ∷ high ∷ bs) h b =
     let n = high * 256 + low in
-    let cut : length (take n bs) + length (drop n bs) ≡ length bs = sym (length-append (take n bs) (drop n bs)) ∙ ap length (take-append-drop n bs) in
-    let settings = settings-room (take n bs) (bytes-take n bs (b .1 .1)) in
-    let others = runs-room f (suc k) (drop n bs) (omega arith) (bytes-drop n bs (b .1 .1)) in
-    simp length-append (omega (arith, room-up 4 k (omega arith)))
+    let others = runs-room f (suc k) (drop n bs) (omega (arith, cut n bs)) (bytes-drop n bs (b .1 .1)) in
+    simp length-append (omega (arith, room-up 4 k (omega arith), settings-room (take n bs) (bytes-take n bs (b .1 .1)), cut n bs))
+
+multi-room : (f : ℕ) (bs : List ℕ) → Bytes bs → length (multiLines (splitList f bs)) ≤ 4 * length bs
+multi-room zero bs h = omega arith
+multi-room (suc f) [] h = omega arith
+multi-room (suc f) (a ∷ []) h = omega arith
+multi-room (suc f) (a ∷ b ∷ []) h = omega arith
+multi-room (suc f) (a ∷ b ∷ low ∷ []) h = omega arith
+multi-room (suc f) (a ∷ b ∷ low ∷ high ∷ bs) (x, (y, (z, (w, h)))) =
+    let n = high * 256 + low in
+    let others = multi-room f (drop n bs) (bytes-drop n bs h) in
+    simp length-append (omega (arith, room-up 4 (b * 256 + a) (omega arith), settings-room (take n bs) (bytes-take n bs h), cut n bs))
 
 ranks-room : (count : ℕ → ℕ) (n : ℕ) → n < 100000 → ((r : ℕ) → count r < 100000) → length (rankLines count n) ≤ 17 * n
 ranks-room count zero h c = omega arith
@@ -78,13 +94,13 @@ first-room inputs states couples marked i s c m =
     simp length-append (omega (arith, room-one inputs i, room-up 1 states s, room-up 4 couples c, room-up 4 marked m))
 
 -- every sheet has room in so many bytes, where no rank is as high as the number of couples
-pub sheet-room : (inputs states : ℕ) (ranks plan : List ℕ) → inputs < 10 → states < 100 → length ranks < 100000 → ranksIn ranks ≤ length ranks
-    → length plan < 99999 → Bytes plan → length (sheetText inputs states ranks plan) ≤ 46 + 17 * length ranks + 5 * length plan
-sheet-room inputs states ranks plan i s c r p b =
+pub sheet-room : (inputs states : ℕ) (ranks plan list : List ℕ) → inputs < 10 → states < 100 → length ranks < 100000 → ranksIn ranks ≤ length ranks
+    → length plan < 99999 → Bytes plan → Bytes list → length (sheetText inputs states ranks plan list) ≤ 46 + 17 * length ranks + 5 * length plan + 4 * length list
+sheet-room inputs states ranks plan list i s c r p b d =
     let first = first-room inputs states (length ranks) (markedIn ranks) i s c (omega (arith, marked-rest ranks)) in
     let middle = ranks-room (λ k. countOf k ranks) (ranksIn ranks) (omega arith) (λ k. omega (arith, count-fits k ranks)) in
-    let last = runs-room (length plan) 1 plan (omega arith) b in
-    simp length-append (omega arith)
+    let runs = runs-room (length plan) 1 plan (omega arith) b in
+    simp length-append (omega (arith, multi-room (length list) list d))
 
 -- no rank is as high as t, where none of a marked couple is
 pub ranks-low : (t : ℕ) (ranks : List ℕ) → ((c : ℕ) → c < length ranks → (getD ranks c 0 < t) ⊎ (getD ranks c 0 ≡ unmarked)) → ranksIn ranks ≤ t

@@ -7,6 +7,7 @@ use lib.Dec.{eqb}
 use Rattle.basics.specs.Texts.{letters}
 use Rattle.machine.specs.Limits.{unmarked}
 use Rattle.machine.specs.Plans.{runsIn}
+use Rattle.several.specs.Lists.{listIn}
 use Rattle.show.specs.Digits.{digits}
 
 -- one blank parts fields, a line feed ends each line
@@ -56,19 +57,26 @@ abbrev pub rankLines : (ℕ → ℕ) → ℕ → List ℕ
 rankLines count zero = []
 rankLines count (suc r) = rankLines count r ++ rankLine r (count r)
 
--- a run's number, then its settings
-abbrev pub runLine : ℕ → List ℕ → List ℕ
-runLine k settings = line (letters "RUN") (digits k ∷ map digits settings)
+-- a word, a number, then the settings of a run
+abbrev pub runLine : List ℕ → ℕ → List ℕ → List ℕ
+runLine word k settings = line word (digits k ∷ map digits settings)
 
--- such a line for each run, the first having number k
+-- such a line for each run of the plan, the first having number k
 abbrev pub runLines : ℕ → List (List ℕ) → List ℕ
 runLines k [] = []
-runLines k (settings ∷ runs) = runLine k settings ++ runLines (suc k) runs
+runLines k (settings ∷ runs) = runLine (letters "RUN") k settings ++ runLines (suc k) runs
 
--- the whole sheet, of the ranks of all couples and the bytes of the stored plan
-abbrev pub sheetText : ℕ → ℕ → List ℕ → List ℕ → List ℕ
-sheetText inputs states ranks plan =
-    firstLine inputs states (length ranks) (markedIn ranks) ++ (rankLines (λ r. countOf r ranks) (ranksIn ranks) ++ runLines 1 (runsIn plan))
+-- and for each run apart from the plan, with its count of multiple changes (document 02, ticket 6)
+abbrev pub multiLines : List (ℕ × List ℕ) → List ℕ
+multiLines [] = []
+multiLines ((count, settings) ∷ list) = runLine (letters "MULTI") count settings ++ multiLines list
+
+-- the whole sheet, of the ranks of all couples and the bytes of the stored plan and of the stored list apart from it
+abbrev pub sheetText : ℕ → ℕ → List ℕ → List ℕ → List ℕ → List ℕ
+sheetText inputs states ranks plan list =
+    firstLine inputs states (length ranks) (markedIn ranks)
+    ++ (rankLines (λ r. countOf r ranks) (ranksIn ranks)
+    ++ (runLines 1 (runsIn plan) ++ multiLines (listIn list)))
 
 -- the one line of a refusal: 5 alone has a third field, the character (document 02, ticket 4)
 abbrev pub refusalText : ℕ → ℕ → ℕ → List ℕ

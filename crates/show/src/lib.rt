@@ -6,17 +6,21 @@ ghost use mathlib.Core.Path.{_≡_};
 ghost use mathlib.Core.List.{_∷_, [], _++_, map};
 ghost use Prim.Native.Nat.{_+_, _<_};
 ghost use Rattle.basics.specs.Texts.{letters};
-ghost use Rattle.machine.specs.Limits.{mostCouples};
 ghost use Rattle.machine.specs.Plans.{runsIn};
+ghost use Rattle.several.specs.Lists.{listIn};
 ghost use Rattle.show.specs.Digits.{digits};
-ghost use Rattle.show.specs.Sheet.{countOf, fieldsBehind, firstLine, rankLine, rankLines, runLine, runLines, ranksIn, sheetText, refusalText};
+ghost use Rattle.show.specs.Sheet.{countOf, fieldsBehind, firstLine, rankLine, rankLines, runLine, runLines, multiLines, ranksIn, sheetText, refusalText};
 ghost use Rattle.show.specs.Written.{Writes};
-ghost use Rattle.show.specs.inner.Steps.{Adds, Counted, raised};
+ghost use Rattle.show.specs.inner.Steps.{Adds, counted, Counted, raised};
 use basics::long;
+use basics::wide;
 use machine::COUPLES;
 use machine::UNMARKED;
 use runs::run_end;
 use runs::setting;
+
+// Ranks below this are counted together; an eighth of those that a machine may have, so that the counts take little of the stack.
+const COUNTED: usize = COUPLES / 8;
 
 // All bytes of a text stand at the front of the buffer, so many; or the buffer is short.
 pub enum Written {
@@ -24,14 +28,22 @@ pub enum Written {
     Short,
 }
 
-// Writes the sheet over the front of out, from the ranks of all couples and the bytes of the stored plan.
-pub fn sheet(inputs: usize, states: usize, ranks: &[u16], plan: &[u8], out: &mut [u8]) -> Written
-    ensures { λ r. ⌜ Writes (sheetText inputs states (now (ranks .entry)) (now (plan .entry))) r (now (out .entry)) (now (out .exit)) ⌝ }
+// Writes the sheet over the front of out, from the ranks of all couples and the bytes of the stored plan and of the stored list.
+pub fn sheet(
+    inputs: usize,
+    states: usize,
+    ranks: &[u16],
+    plan: &[u8],
+    list: &[u8],
+    out: &mut [u8],
+) -> Written
+    ensures { λ r. ⌜ Writes (sheetText inputs states (now (ranks .entry)) (now (plan .entry)) (now (list .entry))) r (now (out .entry)) (now (out .exit)) ⌝ }
 {
     let marked = ranks.len() - couples_of(ranks, UNMARKED as usize);
     let of_head = first_line(inputs, states, ranks.len(), marked, Written::All(0), out);
     let of_ranks = rank_lines(ranks, of_head, out);
-    run_lines(plan, of_ranks, out)
+    let of_plan = run_lines(plan, of_ranks, out);
+    multi_lines(list, of_plan, out)
 }
 
 // Writes the line of a refusal over the front of out, for 5 alone with the character.
@@ -65,11 +77,11 @@ fn first_line(
     byte(b'\n', of_marked, out)
 }
 
-// Writes a line for each rank from 0 to the highest. Ranks below COUPLES, which are all that a machine has, are counted in one pass.
+// Writes a line for each rank from 0 to the highest. Ranks below COUNTED are counted in one pass, each higher one in a pass of its own.
 fn rank_lines(ranks: &[u16], done: Written, out: &mut [u8]) -> Written
     ensures { λ r. ⌜ Adds (rankLines (λ k. countOf k (now (ranks .entry))) (ranksIn (now (ranks .entry)))) done r (now (out .entry)) (now (out .exit)) ⌝ }
 {
-    let mut counts = [0usize; COUPLES];
+    let mut counts = [0usize; COUNTED];
     let mut levels: usize = 0;
     let mut c = ranks.len();
     while 0 < c {
@@ -77,7 +89,7 @@ fn rank_lines(ranks: &[u16], done: Written, out: &mut [u8]) -> Written
         let rank = ranks[c];
         levels = higher(levels, rank);
         let at = long(rank);
-        if at < COUPLES {
+        if at < COUNTED {
             counts[at] += 1;
         }
     }
@@ -92,7 +104,7 @@ fn lines_below(
     done: Written,
     out: &mut [u8],
 ) -> Written
-    requires { ⌜ Counted mostCouples (now ranks) (now counts) ⌝ }
+    requires { ⌜ Counted counted (now ranks) (now counts) ⌝ }
     ensures { λ r. ⌜ Adds (rankLines (λ k. countOf k (now (ranks .entry))) levels) done r (now (out .entry)) (now (out .exit)) ⌝ }
 {
     let mut written = done;
@@ -106,10 +118,10 @@ fn lines_below(
 
 // How many couples have a rank, from the counts where they reach.
 fn count_of(ranks: &[u16], counts: &[usize], rank: usize) -> usize
-    requires { ⌜ Counted mostCouples (now ranks) (now counts) ⌝ }
+    requires { ⌜ Counted counted (now ranks) (now counts) ⌝ }
     ensures { λ r. ⌜ r ≡ countOf rank (now (ranks .entry)) ⌝ }
 {
-    if rank < COUPLES {
+    if rank < COUNTED {
         return counts[rank];
     }
     couples_of(ranks, rank)
@@ -149,18 +161,35 @@ fn run_lines(plan: &[u8], done: Written, out: &mut [u8]) -> Written
     while 2 <= plan.len() - at {
         let from = at + 2;
         let end = run_end(plan, at);
-        written = run_line(number, &plan[from..end], written, out);
+        written = run_line(b"RUN", number, &plan[from..end], written, out);
         number += 1;
         at = end;
     }
     written
 }
 
-// Writes a run's number and its settings.
-fn run_line(number: usize, settings: &[u8], done: Written, out: &mut [u8]) -> Written
-    ensures { λ r. ⌜ Adds (runLine number (now (settings .entry))) done r (now (out .entry)) (now (out .exit)) ⌝ }
+// Writes a line for each run of a stored list apart from the plan: its count of multiple changes stands in the two bytes before it.
+fn multi_lines(list: &[u8], done: Written, out: &mut [u8]) -> Written
+    ensures { λ r. ⌜ Adds (multiLines (listIn (now (list .entry)))) done r (now (out .entry)) (now (out .exit)) ⌝ }
 {
-    let of_number = named(b"RUN", number, done, out);
+    let mut written = done;
+    let mut at: usize = 0;
+    while 4 <= list.len() - at {
+        let count = wide(list[at + 1]) * 256 + wide(list[at]);
+        let run = at + 2;
+        let from = run + 2;
+        let end = run_end(list, run);
+        written = run_line(b"MULTI", count, &list[from..end], written, out);
+        at = end;
+    }
+    written
+}
+
+// Writes a word, a number and the settings of a run.
+fn run_line(name: &[u8], number: usize, settings: &[u8], done: Written, out: &mut [u8]) -> Written
+    ensures { λ r. ⌜ Adds (runLine (now (name .entry)) number (now (settings .entry))) done r (now (out .entry)) (now (out .exit)) ⌝ }
+{
+    let of_number = named(name, number, done, out);
     fields(settings, of_number, out)
 }
 

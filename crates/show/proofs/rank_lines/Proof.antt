@@ -5,22 +5,21 @@ use mathlib.Core.Path.{_≡_, refl}
 use Prim.Native.Nat.{_≤_}
 use lib.ListN.{length, drop, length-drop}
 use lib.Seq.{drop-length}
-use Rattle.machine.specs.Limits.{mostCouples}
 use Rattle.show.specs.Sheet.{ranksIn}
-use Rattle.show.specs.inner.Steps.{Counted}
+use Rattle.show.specs.inner.Steps.{counted, Counted}
 use Rattle.show.proofs.Lists.{drop-before}
 use Rattle.show.proofs.Counts.{count-fits, counted-none, counted-more, counted-past}
 use Rattle.show.proofs.rank_lines.Statement.{statement}
 use Rattle.show.proofs.rank_lines.Tie as tie
 
 abbrev Inv-loop : tie.InvT-loop
-Inv-loop ranks done out counts₀ levels₀ c₀ counts levels c = (c ≤ length ranks) × (levels ≡ ranksIn (drop c ranks)) × Counted mostCouples (drop c ranks) counts
+Inv-loop ranks done out counts₀ levels₀ c₀ counts levels c = (c ≤ length ranks) × (levels ≡ ranksIn (drop c ranks)) × Counted counted (drop c ranks) counts
 
 abbrev μ-loop : tie.MeasureT-loop
 μ-loop ranks done out counts₀ levels₀ c₀ counts levels c = c
 
 loop-holds : tie.Need-loop-holds Inv-loop μ-loop
-loop-holds c = rw (drop-length (c .before .before .args .ranks .now)) (omega arith, refl, counted-none mostCouples)
+loop-holds c = rw (drop-length (c .before .before .args .ranks .now)) (omega arith, refl, counted-none counted)
 
 add-counts : tie.Need-add-counts Inv-loop μ-loop
 add-counts c = omega (arith, c .before .before .before .before .before .loop .inv .2 .each (c .before .long .result) (c .if1 .taken), count-fits (c .before .long .result) (drop (c .before .before .before .before .before .loop .c) (c .before .before .before .before .before .before .before .before .args .ranks .now)), length-drop (c .before .before .before .before .before .loop .c) (c .before .before .before .before .before .before .before .before .args .ranks .now))

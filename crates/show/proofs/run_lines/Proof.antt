@@ -12,16 +12,16 @@ use Rattle.show.proofs.run_lines.Statement.{statement}
 use Rattle.show.proofs.run_lines.Tie as tie
 
 abbrev Inv-loop : tie.InvT-loop
-Inv-loop plan out₀ written₀ number₀ at₀ out written number at = (at ≤ length plan) × (number ≤ at + 1) × Left (runLines 1 (runsIn plan)) (runLines number (runsIn (drop at plan))) written₀ written out₀ out
+Inv-loop plan out₀ written₀ number₀ at₀ word out written number at = (at ≤ length plan) × (number ≤ at + 1) × Left (runLines 1 (runsIn plan)) (runLines number (runsIn (drop at plan))) written₀ written out₀ out
 
 abbrev μ-loop : tie.MeasureT-loop
-μ-loop plan out₀ written₀ number₀ at₀ out written number at = length plan - at
+μ-loop plan out₀ written₀ number₀ at₀ word out written number at = length plan - at
 
 loop-holds : tie.Need-loop-holds Inv-loop μ-loop
 loop-holds c = (omega arith, omega arith, left-all)
 
 loop-again : tie.Need-loop-again Inv-loop μ-loop
-loop-again c = (omega arith, omega arith, rw add-one (left-less (rw (next-run (c .before .before .before .before .before .before .before .before .before .before .args .plan .now) (c .before .before .before .before .before .before .before .loop .at) (c .before .before .before .before .before .run-end .ensures) (omega arith)) at (c .before .before .before .before .before .before .before .loop .inv .2)) (c .before .before .run-line .ensures)))
+loop-again c = (omega arith, omega arith, rw add-one (left-less (rw (next-run (c .before .before .before .before .before .before .before .before .before .before .before .args .plan .now) (c .before .before .before .before .before .before .before .before .loop .at) (c .before .before .before .before .before .before .run-end .ensures) (omega arith)) at (c .before .before .before .before .before .before .before .before .loop .inv .2)) (c .before .before .run-line .ensures)))
 
 same-length : tie.Need-same-length Inv-loop μ-loop
 same-length c = c .before .loop .inv .2 .adds .same-length
@@ -39,6 +39,7 @@ run-lines-spec =
     (λ c. search needs)
     (λ c. search needs)
     (λ c κs. search needs)
+    (λ c. search needs)
     (λ c. search needs)
     (λ c. search needs)
     (λ c. search needs)

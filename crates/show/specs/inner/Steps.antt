@@ -2,10 +2,10 @@
 use mathlib.Core.Path.{_≡_}
 use mathlib.Core.Bool.{cond}
 use mathlib.Core.List.{List, _++_}
-use Prim.Native.Nat.{ℕ, suc, _<_, max}
+use Prim.Native.Nat.{ℕ, suc, _/_, _<_, max}
 use lib.Dec.{eqb}
 use lib.ListN.{length, getD}
-use Rattle.machine.specs.Limits.{unmarked}
+use Rattle.machine.specs.Limits.{mostCouples, unmarked}
 use Rattle.show.specs.declared.Written.{Written}
 use Rattle.show.specs.Sheet.{countOf}
 use Rattle.show.specs.Written.{Writes}
@@ -14,6 +14,10 @@ use Rattle.show.specs.Written.{Writes}
 pub record Adds (piece : List ℕ) (s t : Written) (a b : List ℕ) : Type 0 where
   pub same-length : length b ≡ length a
   pub behind : (text out : List ℕ) → Writes text s out a → Writes (text ++ piece) t out b
+
+-- so many ranks are counted together
+abbrev pub counted : ℕ
+counted = mostCouples / 8
 
 -- a list has the count of each rank below n
 pub record Counted (n : ℕ) (ranks counts : List ℕ) : Type 0 where
