@@ -37,6 +37,13 @@ pub(crate) fn answered(row: &[u8], a: Answer, buffer: &[u16]) {
     end();
 }
 
+// A row of an answer and what a buffer of bytes holds.
+pub(crate) fn written(row: &[u8], a: Answer, buffer: &[u8]) {
+    answer(row, a);
+    bytes(buffer);
+    end();
+}
+
 // What a buffer of bytes holds, behind a bar.
 pub(crate) fn bytes(buffer: &[u8]) {
     word(b"|");

@@ -1,5 +1,6 @@
 // The example rows of document 01 that are not starred, the tables that were published, and files of each refusal, one line a row: a
 // short name of the row, then its numbers.
+mod apart;
 mod changes;
 mod conditions;
 mod frames;
@@ -7,6 +8,7 @@ mod lamps;
 mod limits;
 mod lines;
 mod log;
+mod multi;
 mod optional;
 mod plans;
 mod ranks;
@@ -28,6 +30,7 @@ fn main() {
     frames::gate();
     frames::files();
     few_starts();
+    multiple_changes();
 }
 
 // Conditions and reading a file.
@@ -66,4 +69,17 @@ fn few_starts() {
     starts::gate_ranks();
     starts::gate_runs();
     starts::lamp();
+}
+
+// Runs that may change several inputs at once.
+fn multiple_changes() {
+    multi::gate_unmarked();
+    multi::gate_runs();
+    multi::gate_ranks();
+    multi::ruled_gate_runs();
+    apart::lamp();
+    apart::gate();
+    apart::pair();
+    multi::expected_readings();
+    multi::wrong_changes();
 }

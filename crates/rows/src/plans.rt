@@ -4,6 +4,7 @@ use crate::lines::answered;
 use crate::lines::bytes;
 use crate::lines::end;
 use crate::lines::values;
+use crate::lines::written;
 use crate::ranks::gate_frame;
 use crate::ranks::gate_table;
 use crate::ranks::lamp_frame;
@@ -50,9 +51,7 @@ pub(crate) fn run_to(what: &[u8], frame: Frame, couple: usize, room: &mut [u8]) 
     let table = gate_table();
     let mut ranks = [7u16; 48];
     let told = plan::run_to(frame, &table, &mut ranks, couple, room);
-    answer(what, told);
-    bytes(room);
-    end();
+    written(what, told, room);
 }
 
 // Expected readings, and lists of settings that start no run.
@@ -76,7 +75,7 @@ fn of_lamp(what: &[u8], run: &[u8]) {
     readings_of(what, frame, b"\x00\x01\x00\x01", &words, run);
 }
 
-fn of_gate(what: &[u8], run: &[u8]) {
+pub(crate) fn of_gate(what: &[u8], run: &[u8]) {
     let table = gate_table();
     let words = [0u16, 1, 2];
     readings_of(what, gate_frame(), &table, &words, run);

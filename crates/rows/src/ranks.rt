@@ -85,6 +85,10 @@ pub(crate) fn published(what: &[u8], frame: Frame, table: &[u8], ranks: &mut [u1
     answer(what, told);
     end();
     parts(what, b"state", ranks, machine::settings(frame.inputs));
+    counted(what, ranks, highest);
+}
+
+pub(crate) fn counted(what: &[u8], ranks: &[u16], highest: u16) {
     marked(what, ranks, highest);
     unmarked(what, ranks);
 }

@@ -1,7 +1,5 @@
 // The rows about shortened plans: the answer, then every byte of the plan that was lent.
-use crate::lines::answer;
-use crate::lines::bytes;
-use crate::lines::end;
+use crate::lines::written;
 use crate::ranks::gate_frame;
 use crate::ranks::gate_table;
 use crate::ranks::lamp_frame;
@@ -75,7 +73,5 @@ fn refused(what: &[u8], initial: usize, table: &[u8]) {
 
 pub(crate) fn shortened(what: &[u8], frame: Frame, table: &[u8], plan: &mut [u8]) {
     let told = shorten::shorten(frame, table, plan);
-    answer(what, told);
-    bytes(plan);
-    end();
+    written(what, told, plan);
 }
