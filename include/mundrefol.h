@@ -7,7 +7,9 @@
  * ruled out: no run uses them. A run is a start, one of the allowed starts that is not ruled out and at
  * which the initial state rests, then settings not ruled out that each differ from the one before in
  * exactly one input. It visits the couple of its start and, at each change, that of the state and the
- * new setting, then the one it moves to. A file's records are its states, then its evolutions, then
+ * new setting, then the one it moves to. A couple that some run visits is marked. A run that may change
+ * several inputs is the same, but its settings differ from the one before in at least one input; a
+ * change of two or more is a multiple change. A file's records are its states, then its evolutions, then
  * the condition of kind 5 if it has one, at which a setting is ruled out, then that of kind 6 if it has
  * one, at which a setting is an allowed start; they are numbered from 0. A buffer's needed part is what
  * the answer uses of it.
@@ -38,15 +40,18 @@
  *        start that is not ruled out
  *   14   asked couple not below states * 2^inputs                  0
  *   15   asked couple not marked                                   0
- *   16   run or plan buffer short                                  bytes needed
+ *   16   run, plan or list buffer short                            bytes needed
  *   17   not a run (a setting ruled out is a fault, and so is      index of the first fault, 0 if empty
- *        a start that is not allowed)
+ *        a start that is not allowed; where several inputs may
+ *        change, a setting twice is a fault, any other change none)
  *   18   log not sound, or its readings at 4294967295              0
  *   19   plan bytes that do not split into runs, or a run          byte where that run starts
  *        that 17 refuses
+ *   20   asked couple visited by no run, several inputs            0
+ *        changing at once or not
  *
- * They are checked in this order, each over the whole input before the next; the place is the
- * smallest that fits.
+ * They are checked in this order, 20 in the place of 15, each over the whole input before the next; the
+ * place is the smallest that fits.
  */
 #ifndef MUNDREFOL_H
 #define MUNDREFOL_H
@@ -141,6 +146,29 @@ mundrefol_answer mundrefol_plan(mundrefol_frame frame, const uint8_t *table, siz
                                 uint8_t *plan, size_t plan_len);
 
 /*
+ * Writes the run to a couple that may change several inputs, one byte a setting: with the fewest multiple
+ * changes, among those with the fewest changes, and among those the one with the smallest resting couples
+ * before each change, compared from the last change back to the start. For a marked couple it is the run
+ * that mundrefol_run_to writes, with no multiple change. On success the place is the number of settings.
+ * Refused as marking is, then by 14, 20, 16 with the settings of that run. Ranks are left as marking
+ * leaves them, single changes alone; after a refusal the run buffer is unchanged.
+ */
+mundrefol_answer mundrefol_multi_run_to(mundrefol_frame frame, const uint8_t *table, size_t table_len, uint16_t *ranks, size_t ranks_len,
+                                        size_t couple, uint8_t *run, size_t run_len);
+
+/*
+ * Writes the list, which is apart from the plan: through the couples that are not marked in rising number,
+ * the run that mundrefol_multi_run_to writes to each one that such a run visits and that no earlier run
+ * of the list does; the plan visits none of them. A run is stored as its number of multiple changes in
+ * two bytes, low byte first, then as in a plan. On success the place is the number of bytes written, 0
+ * if there is no such couple.
+ * Refused as marking is, then by 16 with the bytes that the whole list needs. Ranks are left as marking
+ * leaves them, single changes alone; after a refusal the list buffer is unchanged.
+ */
+mundrefol_answer mundrefol_multi_list(mundrefol_frame frame, const uint8_t *table, size_t table_len, uint16_t *ranks, size_t ranks_len,
+                                      uint8_t *list, size_t list_len);
+
+/*
  * Shortens a plan, which is all of the plan_len bytes: from the first run to the last, takes out each
  * one whose couples are all visited by other runs still in. Those left move down in order; together
  * they visit the same couples, and none of them can be spared. On success the place is the number of
@@ -158,6 +186,15 @@ mundrefol_answer mundrefol_shorten(mundrefol_frame frame, const uint8_t *table, 
  */
 mundrefol_answer mundrefol_expected(mundrefol_frame frame, const uint8_t *table, size_t table_len, const uint16_t *words, size_t words_len,
                                     const uint8_t *run, size_t run_len, uint16_t *readings, size_t readings_len);
+
+/*
+ * Writes the readings expected on a run that may change several inputs, as mundrefol_expected does; 17
+ * refuses a change of no input, but none of several.
+ * Refused by 2 (also a run of over 65535 settings), 3, 4, 10, 17; nothing changes after a refusal.
+ */
+mundrefol_answer mundrefol_multi_expected(mundrefol_frame frame, const uint8_t *table, size_t table_len,
+                                          const uint16_t *words, size_t words_len, const uint8_t *run, size_t run_len,
+                                          uint16_t *readings, size_t readings_len);
 
 /*
  * Notes one reading in the log: compares the expected with the seen word. Equal counts a reading;

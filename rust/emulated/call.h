@@ -13,7 +13,9 @@ enum { SOCKET = 0, MEMORY = 3 };
 /* At most so many numbers and buffers in a call; what a buffer's place is a multiple of; the bytes of the room. */
 enum { NUMBERS = 5, BUFFERS = 4, ALIGNED = 64, ROOM = 1 << 25 };
 
-typedef enum { READ, EVOLUTION_HOLDS, MARK, RUN_TO, PLAN, SHORTEN, EXPECTED, UPDATE } call_job;
+typedef enum {
+    READ, EVOLUTION_HOLDS, MARK, RUN_TO, PLAN, MULTI_RUN_TO, MULTI_LIST, SHORTEN, EXPECTED, MULTI_EXPECTED, UPDATE
+} call_job;
 
 /* The job, its numbers in the header's order, its frame, the place in the room and the number of elements of each buffer. */
 typedef struct {

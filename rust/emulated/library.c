@@ -38,10 +38,16 @@ static call_answer answer_of(const call *made, uint8_t *room)
         return (call_answer){.answer = mundrefol_run_to(frame, b[0], len[0], b[1], len[1], n[0], b[2], len[2])};
     case PLAN:
         return (call_answer){.answer = mundrefol_plan(frame, b[0], len[0], b[1], len[1], b[2], len[2])};
+    case MULTI_RUN_TO:
+        return (call_answer){.answer = mundrefol_multi_run_to(frame, b[0], len[0], b[1], len[1], n[0], b[2], len[2])};
+    case MULTI_LIST:
+        return (call_answer){.answer = mundrefol_multi_list(frame, b[0], len[0], b[1], len[1], b[2], len[2])};
     case SHORTEN:
         return (call_answer){.answer = mundrefol_shorten(frame, b[0], len[0], b[1], len[1])};
     case EXPECTED:
         return (call_answer){.answer = mundrefol_expected(frame, b[0], len[0], b[1], len[1], b[2], len[2], b[3], len[3])};
+    case MULTI_EXPECTED:
+        return (call_answer){.answer = mundrefol_multi_expected(frame, b[0], len[0], b[1], len[1], b[2], len[2], b[3], len[3])};
     case UPDATE:
         return (call_answer){.noted = update(b[0], n)};
     }

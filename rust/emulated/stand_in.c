@@ -170,6 +170,20 @@ mundrefol_answer mundrefol_plan(mundrefol_frame frame, const uint8_t *table, siz
     return answer_of((call){.job = PLAN, .frame = frame}, buffers).answer;
 }
 
+mundrefol_answer mundrefol_multi_run_to(mundrefol_frame frame, const uint8_t *table, size_t table_len, uint16_t *ranks, size_t ranks_len,
+                                        size_t couple, uint8_t *run, size_t run_len)
+{
+    const lent buffers[BUFFERS] = {READS(table, table_len), WRITES(ranks, ranks_len), WRITES(run, run_len)};
+    return answer_of((call){.job = MULTI_RUN_TO, .numbers = {couple}, .frame = frame}, buffers).answer;
+}
+
+mundrefol_answer mundrefol_multi_list(mundrefol_frame frame, const uint8_t *table, size_t table_len, uint16_t *ranks, size_t ranks_len,
+                                      uint8_t *list, size_t list_len)
+{
+    const lent buffers[BUFFERS] = {READS(table, table_len), WRITES(ranks, ranks_len), WRITES(list, list_len)};
+    return answer_of((call){.job = MULTI_LIST, .frame = frame}, buffers).answer;
+}
+
 mundrefol_answer mundrefol_shorten(mundrefol_frame frame, const uint8_t *table, size_t table_len, uint8_t *plan, size_t plan_len)
 {
     const lent buffers[BUFFERS] = {READS(table, table_len), WRITES(plan, plan_len)};
@@ -182,6 +196,15 @@ mundrefol_answer mundrefol_expected(mundrefol_frame frame, const uint8_t *table,
     const lent buffers[BUFFERS] = {READS(table, table_len), READS(words, words_len), READS(run, run_len),
                                    WRITES(readings, readings_len)};
     return answer_of((call){.job = EXPECTED, .frame = frame}, buffers).answer;
+}
+
+mundrefol_answer mundrefol_multi_expected(mundrefol_frame frame, const uint8_t *table, size_t table_len,
+                                          const uint16_t *words, size_t words_len, const uint8_t *run, size_t run_len,
+                                          uint16_t *readings, size_t readings_len)
+{
+    const lent buffers[BUFFERS] = {READS(table, table_len), READS(words, words_len), READS(run, run_len),
+                                   WRITES(readings, readings_len)};
+    return answer_of((call){.job = MULTI_EXPECTED, .frame = frame}, buffers).answer;
 }
 
 mundrefol_noted mundrefol_update(mundrefol_log *log, uint16_t run, uint16_t change, bool second, uint16_t expected, uint16_t seen)

@@ -48,6 +48,25 @@ extern "C" {
         plan: *mut u8,
         plan_len: usize,
     ) -> Answer;
+    pub fn mundrefol_multi_run_to(
+        frame: Frame,
+        table: *const u8,
+        table_len: usize,
+        ranks: *mut u16,
+        ranks_len: usize,
+        couple: usize,
+        run: *mut u8,
+        run_len: usize,
+    ) -> Answer;
+    pub fn mundrefol_multi_list(
+        frame: Frame,
+        table: *const u8,
+        table_len: usize,
+        ranks: *mut u16,
+        ranks_len: usize,
+        list: *mut u8,
+        list_len: usize,
+    ) -> Answer;
     pub fn mundrefol_shorten(
         frame: Frame,
         table: *const u8,
@@ -56,6 +75,17 @@ extern "C" {
         plan_len: usize,
     ) -> Answer;
     pub fn mundrefol_expected(
+        frame: Frame,
+        table: *const u8,
+        table_len: usize,
+        words: *const u16,
+        words_len: usize,
+        run: *const u8,
+        run_len: usize,
+        readings: *mut u16,
+        readings_len: usize,
+    ) -> Answer;
+    pub fn mundrefol_multi_expected(
         frame: Frame,
         table: *const u8,
         table_len: usize,

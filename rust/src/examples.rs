@@ -1,8 +1,8 @@
 //! The specification files of the folder `examples/`, as readable descriptions.
 
 use crate::file::{with_contents, File, Leaving, State};
-use crate::generate::{nested, padded};
-use crate::plain::{PARENTHESES, TEXT};
+use crate::generate::{nested, padded, sum_of_products, Product};
+use crate::plain::{INPUTS, PARENTHESES, STATES, TEXT};
 
 /// An example: its name in the folder, and its bytes.
 pub struct Example {
@@ -30,9 +30,11 @@ fn sound() -> Vec<Example> {
         example("cutter-alarm", cutter_alarm().bytes()),
         example("cutter-at-the-top", cutter().starts("b").bytes()),
         example("gate", gate().bytes()),
+        example("gate-not-both", gate().never("a.b").bytes()),
         example("gate-two-starts", gate().starts("!a.!b.d").bytes()),
         example("lamp", lamp().bytes()),
         example("table-iv", table_iv().bytes()),
+        example("two-hands", two_hands().bytes()),
     ]
 }
 
@@ -74,7 +76,8 @@ fn refused_for_rules() -> Vec<Example> {
         example("refused-13-gate-at-power-up", File { starts: None, ..gate() }.bytes()),
         example("refused-13-kind-6-ruled-out", cutter().starts("b.c").bytes()),
         example("refused-13-no-start", no_start().bytes()),
-        example("refused-16-long-plan", counter(8, 32).bytes()),
+        example("refused-16-long-list", long_list().bytes()),
+        example("refused-16-long-plan", counter(INPUTS as u8, STATES as u8).bytes()),
     ]
 }
 
@@ -163,6 +166,26 @@ pub fn table_iv() -> File {
     .starts("1")
 }
 
+/// A press with a button for each hand, a and b. It waits (0), closes when both are pressed at once (1),
+/// and opens when both are let go at once (3); a hand alone stops it (2) until both are off.
+pub fn two_hands() -> File {
+    let one = "a.!b+!a.b";
+    File::new(
+        2,
+        2,
+        &[(0, "!a.!b"), (1, "a.b"), (2, "a+b"), (3, "!a.!b")],
+        &[
+            (0, 1, "a.b"),
+            (0, 2, one),
+            (1, 2, one),
+            (1, 3, "!a.!b"),
+            (2, 0, "!a.!b"),
+            (3, 1, "a.b"),
+            (3, 2, one),
+        ],
+    )
+}
+
 /// A ring of states that input a steps through at each of its changes; the other inputs do nothing.
 pub fn counter(inputs: u8, states: u8) -> File {
     let on = |state: u8| if state.is_multiple_of(2) { "!a" } else { "a" };
@@ -177,6 +200,14 @@ pub fn counter(inputs: u8, states: u8) -> File {
         evolutions: (0..states).map(leaving).collect(),
         ..File::new(inputs, 16, &[], &[])
     }
+}
+
+/// The largest ring, whose settings with exactly one input on are never used: no single change leaves its
+/// start, and after one multiple change the whole ring is open.
+pub fn long_list() -> File {
+    let alone = |input: usize| Product { named: (1 << INPUTS) - 1, on: 1 << input };
+    let never: Vec<Product> = (0..INPUTS).map(alone).collect();
+    counter(INPUTS as u8, STATES as u8).never(&sum_of_products(&never))
 }
 
 fn with_word(mut file: File, state: usize, word: u16) -> File {

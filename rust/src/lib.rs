@@ -181,6 +181,44 @@ pub fn plan(frame: Frame, table: &[u8], ranks: &mut [u16], plan: &mut [u8]) -> A
     }
 }
 
+/// Writes the run to a couple, several inputs changing at once where they must; the place is its number
+/// of settings.
+pub fn multi_run_to(
+    frame: Frame,
+    table: &[u8],
+    ranks: &mut [u16],
+    couple: usize,
+    run: &mut [u8],
+) -> Answer {
+    unsafe {
+        entry::mundrefol_multi_run_to(
+            frame,
+            table.as_ptr(),
+            table.len(),
+            ranks.as_mut_ptr(),
+            ranks.len(),
+            couple,
+            run.as_mut_ptr(),
+            run.len(),
+        )
+    }
+}
+
+/// Writes the list of the runs to unmarked couples; the place is its number of bytes.
+pub fn multi_list(frame: Frame, table: &[u8], ranks: &mut [u16], list: &mut [u8]) -> Answer {
+    unsafe {
+        entry::mundrefol_multi_list(
+            frame,
+            table.as_ptr(),
+            table.len(),
+            ranks.as_mut_ptr(),
+            ranks.len(),
+            list.as_mut_ptr(),
+            list.len(),
+        )
+    }
+}
+
 /// Shortens a plan by the runs whose couples other runs visit; the place is the number of bytes left.
 pub fn shorten(frame: Frame, table: &[u8], plan: &mut [u8]) -> Answer {
     unsafe {
@@ -198,6 +236,30 @@ pub fn expected(
 ) -> Answer {
     unsafe {
         entry::mundrefol_expected(
+            frame,
+            table.as_ptr(),
+            table.len(),
+            words.as_ptr(),
+            words.len(),
+            run.as_ptr(),
+            run.len(),
+            readings.as_mut_ptr(),
+            readings.len(),
+        )
+    }
+}
+
+/// Writes the readings expected on a run that may change several inputs at once; the place is their
+/// number.
+pub fn multi_expected(
+    frame: Frame,
+    table: &[u8],
+    words: &[u16],
+    run: &[u8],
+    readings: &mut [u16],
+) -> Answer {
+    unsafe {
+        entry::mundrefol_multi_expected(
             frame,
             table.as_ptr(),
             table.len(),

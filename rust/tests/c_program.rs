@@ -1,11 +1,12 @@
-//! A program that includes the header and links the archive, compiled as C and as C++ and run.
+//! Programs that include the header and link the archive, compiled as C and as C++ and run.
 
 use std::path::{Path, PathBuf};
 use std::process::{Command, Output};
 
 const WARNINGS: [&str; 4] = ["-Wall", "-Wextra", "-Werror", "-pedantic"];
 
-const PRINTED: &str = "table 0 1 0 1
+/// What `lamp.c` prints.
+const LAMP: &str = "table 0 1 0 1
 plan 1 0 0 2 0 0 1 3 0 0 1 0
 run 0 1 0
 readings 0 1 1 0 0
@@ -14,34 +15,61 @@ starts 3 0 0 1 0
 log 34 33 32
 ";
 
+/// What `hands.c` prints: each run of the list as it is stored.
+const HANDS: &str = "run 0 3 0 3
+multi 1 0 2 0 0 3
+multi 2 0 3 0 0 3 0
+multi 1 0 3 0 0 3 1
+multi 1 0 3 0 0 3 2
+multi 2 0 4 0 0 3 0 1
+multi 2 0 4 0 0 3 0 2
+multi 3 0 4 0 0 3 0 3
+readings 0 1 1 3 3
+";
+
 fn assert_success(what: &str, output: &Output) {
     let printed = [&output.stdout[..], &output.stderr[..]].concat();
     assert!(output.status.success(), "{what}: {}", String::from_utf8_lossy(&printed));
 }
 
-/// Compiles `lamp.c` in a language, with warnings as errors, links the archive, and runs it.
-fn lamp(compiler: &str, language: &str, standard: &str) {
+/// Compiles a program in a language, with warnings as errors, links the archive, and runs it.
+fn prints(name: &str, language: &str, printed: &str) {
+    let (compiler, standard) = match language {
+        "c" => ("cc", "-std=c11"),
+        _ => ("c++", "-std=c++17"),
+    };
     let package = Path::new(env!("CARGO_MANIFEST_DIR"));
-    let program = PathBuf::from(env!("CARGO_TARGET_TMPDIR")).join(format!("lamp-{language}"));
+    let program = PathBuf::from(env!("CARGO_TARGET_TMPDIR")).join(format!("{name}-{language}"));
     let mut command = Command::new(compiler);
     command.arg(standard).args(WARNINGS).arg("-I").arg(package.join("../include"));
-    command.args(["-x", language]).arg(package.join("tests/lamp.c")).args(["-x", "none"]);
+    let source = package.join(format!("tests/{name}.c"));
+    command.args(["-x", language]).arg(source).args(["-x", "none"]);
     command.arg(env!("MUNDREFOL_ARCHIVE")).arg("-o").arg(&program);
     let output = command.output();
     let output =
         output.unwrap_or_else(|error| panic!("this test needs the compiler `{compiler}`: {error}"));
     assert_success(compiler, &output);
     let output = Command::new(&program).output().expect("the compiled program runs");
-    assert_success("lamp", &output);
-    assert_eq!(String::from_utf8_lossy(&output.stdout), PRINTED);
+    assert_success(name, &output);
+    assert_eq!(String::from_utf8_lossy(&output.stdout), printed);
 }
 
 #[test]
 fn lamp_in_c() {
-    lamp("cc", "c", "-std=c11");
+    prints("lamp", "c", LAMP);
 }
 
 #[test]
 fn lamp_in_cpp() {
-    lamp("c++", "c++", "-std=c++17");
+    prints("lamp", "c++", LAMP);
+}
+
+#[test]
+fn hands_in_c() {
+    prints("hands", "c", HANDS);
+}
+
+#[test]
+fn hands_in_cpp() {
+    prints("hands", "c++", HANDS);
 }

@@ -5,11 +5,9 @@
  */
 
 #include <assert.h>
-#include <stdio.h>
-#include <stdlib.h>
 #include <string.h>
 
-#include "mundrefol.h"
+#include "check.h"
 
 #define WORD sizeof(size_t)
 static_assert(sizeof(mundrefol_answer) == 2 * WORD, "answer");
@@ -38,14 +36,6 @@ static_assert(offsetof(mundrefol_log, kept) == 8, "log.kept");
 static_assert(offsetof(mundrefol_log, entries) == 12, "log.entries");
 static_assert(sizeof(mundrefol_noted) == 3 * WORD, "noted");
 static_assert(offsetof(mundrefol_noted, kind) == 2 * WORD, "noted.kind");
-
-#define CHECK(holds)                                                        \
-    do {                                                                    \
-        if (!(holds)) {                                                     \
-            printf("%s:%d: not so: %s\n", __FILE__, __LINE__, #holds);      \
-            exit(1);                                                        \
-        }                                                                   \
-    } while (0)
 
 static const uint8_t lamp[47] = {
     'S', 'E', 'Q', '1', 4,
@@ -78,14 +68,6 @@ static int is_set(const uint64_t set[4], uint64_t first)
 static int has_sets(mundrefol_frame frame, uint64_t never, uint64_t starts)
 {
     return is_set(frame.never, never) && is_set(frame.starts, starts);
-}
-
-static void show(const char *what, const uint8_t *bytes, size_t count)
-{
-    printf("%s", what);
-    for (size_t i = 0; i < count; i++)
-        printf(" %d", bytes[i]);
-    printf("\n");
 }
 
 static mundrefol_frame check_read(uint8_t table[5], uint16_t words[3], mundrefol_evolution records[3])

@@ -1,11 +1,12 @@
 //! Times the library against the independent implementation on the same inputs, in one run.
 
-use mundrefol::generate::{largest_file, longest_table, plan_of, Table};
-use mundrefol::plain::{self, lines, Jobs, COUPLES, EVOLUTIONS, FILE, STATES, UNMARKED};
+use mundrefol::generate::{largest_file, list_of, longest_table, plan_of, widest_table, Table};
+use mundrefol::plain::{self, lines, queue, Jobs, RunTo, Write};
+use mundrefol::plain::{COUPLES, EVOLUTIONS, FILE, INPUTS, STATES, UNMARKED};
 use mundrefol::{examples, Contents, Evolution, Frame};
 use std::fs::{self, File};
 use std::hint::black_box;
-use std::io::{self, Read, Write};
+use std::io::{self, Read, Write as _};
 use std::path::Path;
 use std::process::{self, Command, Stdio};
 use std::time::{Duration, Instant};
@@ -13,6 +14,11 @@ use std::time::{Duration, Instant};
 /// A job is repeated for at least this long, in rounds that take turns with its rival.
 const TIME: Duration = Duration::from_millis(400);
 const ROUNDS: usize = 8;
+
+/// What a sheet is made of, by each; both find multiple changes by the same plan of work.
+const LIBRARY: Jobs =
+    Jobs { read: mundrefol::read, plan: mundrefol::plan, list: mundrefol::multi_list };
+const PLAIN: Jobs = Jobs { read: plain::read, plan: plain::plan, list: queue::multi_list };
 
 /// With this argument it prints the sheet of the file on standard input, by the independent implementation.
 const SHEET: &str = "--sheet";
@@ -23,17 +29,20 @@ fn main() {
     }
     println!("Best time of one call over {ROUNDS} rounds; buffers are not cleared between calls.");
     println!(
-        "sheet: reading, plan and lines in memory; the lines are written by the same Rust code."
+        "sheet: reading, plan, list and lines in memory; the lines are written by the same Rust code."
     );
+    println!("multi run, list: the Rust by the library's plan of work, one queue with two heads.");
     println!("shorten: the plan is copied into the buffer before each call, by both.");
     println!("program: a process that reads the file and prints its whole sheet.");
     bench_file("lamp", &examples::lamp().bytes());
     bench_file("gate", &examples::gate().bytes());
+    bench_file("all marked", &examples::counter(INPUTS as u8, STATES as u8 / 2).bytes());
     let largest = bench_file("largest", &largest_file(FILE).bytes());
     bench_sizes("largest", &largest);
-    let longest = longest_table();
-    head("longest runs", "", &longest);
-    bench_table(&longest);
+    for (name, table) in [("longest runs", longest_table()), ("most changes", widest_table())] {
+        head(name, "", &table);
+        bench_table(&table);
+    }
 }
 
 /// The least time of one call of `job`, over as many calls as fit.
@@ -98,7 +107,8 @@ fn head(name: &str, size: &str, table: &Table) {
     let mut ranks = vec![0; table.moves.len()];
     let plan = plain::plan(table.frame, &table.moves, &mut ranks, &mut []).place;
     let highest = ranks.iter().filter(|&&rank| rank != UNMARKED).max().expect("a start is marked");
-    println!("\n{name}: {inputs} inputs, {states} states, {size}highest rank {highest}, plan of {plan} bytes");
+    let list = list_of(table).len();
+    println!("\n{name}: {inputs} inputs, {states} states, {size}highest rank {highest}, plan of {plan} bytes, list of {list}");
     columns("job");
 }
 
@@ -128,9 +138,8 @@ fn bench_file(name: &str, file: &[u8]) -> Table {
     };
     row("reading", &mut library, &mut independent);
     bench_table(&table);
-    let library = Jobs { read: mundrefol::read, plan: mundrefol::plan };
-    row("sheet", &mut || drop(black_box(lines(library, black_box(file)))), &mut || {
-        drop(black_box(plain::sheet(black_box(file))))
+    row("sheet", &mut || drop(black_box(lines(LIBRARY, black_box(file)))), &mut || {
+        drop(black_box(lines(PLAIN, black_box(file))))
     });
     bench_program(file);
     table
@@ -139,7 +148,7 @@ fn bench_file(name: &str, file: &[u8]) -> Table {
 fn print_sheet() {
     let mut file = Vec::new();
     io::stdin().read_to_end(&mut file).expect("standard input is read");
-    io::stdout().write_all(&plain::sheet(&file)).expect("standard output is written");
+    io::stdout().write_all(&lines(PLAIN, &file)).expect("standard output is written");
 }
 
 /// The program `sheet` against this one with the argument `--sheet`.
@@ -179,25 +188,30 @@ fn bench_table(table: &Table) {
     row("marking", &mut library, &mut independent);
     let ranked = (0..theirs.len()).filter(|&couple| theirs[couple] != UNMARKED);
     let farthest = ranked.max_by_key(|&couple| theirs[couple]).expect("some couple is marked");
-    bench_plan(table);
+    let unranked = (0..theirs.len()).rfind(|&couple| theirs[couple] == UNMARKED);
+    bench_write("plan", table, mundrefol::plan, plain::plan);
+    bench_write("list", table, mundrefol::multi_list, queue::multi_list);
     bench_shorten("shorten", table, &plan_of(table));
-    let run = bench_run(table, farthest);
+    let run = bench_run("run", table, farthest, mundrefol::run_to, plain::run_to);
+    let couple = unranked.unwrap_or(farthest);
+    bench_run("multi run", table, couple, mundrefol::multi_run_to, queue::multi_run_to);
     bench_readings(table, &run);
 }
 
-fn bench_plan(table: &Table) {
+/// The plan or the list.
+fn bench_write(job: &str, table: &Table, library: Write, plain: Write) {
     let Table { frame, ref moves } = *table;
     let mut ranks = vec![0; moves.len()];
-    let needed = plain::plan(frame, moves, &mut ranks, &mut []).place;
+    let needed = plain(frame, moves, &mut ranks, &mut []).place;
     let (mut ours, mut theirs) = (vec![0; needed], vec![0; needed]);
     let (mut our_ranks, mut their_ranks) = (ranks.clone(), ranks);
     let mut library = || {
-        black_box(mundrefol::plan(frame, black_box(moves), &mut our_ranks, &mut ours));
+        black_box(library(frame, black_box(moves), &mut our_ranks, &mut ours));
     };
     let mut independent = || {
-        black_box(plain::plan(frame, black_box(moves), &mut their_ranks, &mut theirs));
+        black_box(plain(frame, black_box(moves), &mut their_ranks, &mut theirs));
     };
-    row("plan", &mut library, &mut independent);
+    row(job, &mut library, &mut independent);
 }
 
 fn bench_shorten(job: &str, table: &Table, plan: &[u8]) {
@@ -225,19 +239,19 @@ fn bench_sizes(name: &str, table: &Table) {
     }
 }
 
-/// The run to the couple of the highest rank.
-fn bench_run(table: &Table, couple: usize) -> Vec<u8> {
+/// The run to a couple.
+fn bench_run(job: &str, table: &Table, couple: usize, library: RunTo, plain: RunTo) -> Vec<u8> {
     let Table { frame, ref moves } = *table;
     let (mut our_ranks, mut ours) = (vec![0; moves.len()], vec![0; COUPLES]);
     let (mut their_ranks, mut theirs) = (our_ranks.clone(), ours.clone());
-    let needed = plain::run_to(frame, moves, &mut their_ranks, couple, &mut theirs).place;
+    let needed = plain(frame, moves, &mut their_ranks, couple, &mut theirs).place;
     let mut library = || {
-        black_box(mundrefol::run_to(frame, black_box(moves), &mut our_ranks, couple, &mut ours));
+        black_box(library(frame, black_box(moves), &mut our_ranks, couple, &mut ours));
     };
     let mut independent = || {
-        black_box(plain::run_to(frame, black_box(moves), &mut their_ranks, couple, &mut theirs));
+        black_box(plain(frame, black_box(moves), &mut their_ranks, couple, &mut theirs));
     };
-    row("run", &mut library, &mut independent);
+    row(job, &mut library, &mut independent);
     theirs.truncate(needed);
     theirs
 }

@@ -44,10 +44,34 @@ fn resting(table: &Table) -> impl Iterator<Item = usize> + '_ {
     })
 }
 
+/// A walk of so many settings, careless or not.
+pub type Walk = fn(&mut Random, &Table, usize, bool) -> Vec<u8>;
+
 /// So many settings from a start, or from any setting if there is none, each changing one input;
 /// fewer if none can be changed. A careless walk uses settings that are ruled out, and starts at any at
 /// which the initial state rests.
 pub fn walk(random: &mut Random, table: &Table, count: usize, careless: bool) -> Vec<u8> {
+    walk_by(random, table, count, careless, |_, inputs, from| {
+        (0..inputs).map(|input| from ^ 1 << input).collect()
+    })
+}
+
+/// As a walk, but about every other change is to any other setting.
+pub fn multi_walk(random: &mut Random, table: &Table, count: usize, careless: bool) -> Vec<u8> {
+    walk_by(random, table, count, careless, |random, inputs, from| {
+        let most = if random.once_in(2) { inputs as u32 } else { 1 };
+        (0..1 << inputs).filter(|to| (1..=most).contains(&(from ^ to).count_ones())).collect()
+    })
+}
+
+/// A walk whose next settings are among those that `changes` gives for the inputs and the last one.
+fn walk_by(
+    random: &mut Random,
+    table: &Table,
+    count: usize,
+    careless: bool,
+    changes: impl Fn(&mut Random, usize, usize) -> Vec<usize>,
+) -> Vec<u8> {
     let inputs = inputs(table);
     let used = |&setting: &usize| careless || !table.frame.rules_out(setting);
     let any = random.below(1 << inputs);
@@ -60,8 +84,8 @@ pub fn walk(random: &mut Random, table: &Table, count: usize, careless: bool) ->
     while run.len() < count && !next.is_empty() {
         let setting = *random.pick(&next);
         run.push(setting as u8);
-        next.clear();
-        next.extend((0..inputs).map(|input| setting ^ 1 << input).filter(used));
+        next = changes(random, inputs, setting);
+        next.retain(used);
     }
     run
 }

@@ -20,16 +20,26 @@ pub struct Marked<'a> {
     pub parents: Vec<u16>,
 }
 
+/// Checks 2, 3, 4, 10 and 13: the machine, and the needed ranks, which are still those of unmarked couples.
+pub fn checked<'a, 'b>(
+    frame: Frame,
+    table: &'a [u8],
+    ranks: &'b mut [u16],
+) -> Result<(Machine<'a>, &'b mut [u16]), Answer> {
+    let length = ranks.len();
+    let machine = Machine::new(frame, table, true, |couples| vec![(length, couples)])?;
+    let ranks = &mut ranks[..machine.couples()];
+    ranks.fill(UNMARKED);
+    machine.check_states()?;
+    machine.check_transients()?;
+    machine.check_start()?;
+    Ok((machine, ranks))
+}
+
 impl<'a> Marked<'a> {
     /// Checks 2, 3, 4, 10 and 13, and the ranks.
     pub fn new(frame: Frame, table: &'a [u8], ranks: &'a mut [u16]) -> Result<Self, Answer> {
-        let length = ranks.len();
-        let machine = Machine::new(frame, table, true, |couples| vec![(length, couples)])?;
-        let ranks = &mut ranks[..machine.couples()];
-        ranks.fill(UNMARKED);
-        machine.check_states()?;
-        machine.check_transients()?;
-        machine.check_start()?;
+        let (machine, ranks) = checked(frame, table, ranks)?;
         let parents = vec![0; machine.couples()];
         let mut marked = Marked { machine, ranks, parents };
         marked.search();
@@ -76,15 +86,5 @@ impl<'a> Marked<'a> {
     /// Whether some run visits the couple.
     pub fn is_marked(&self, couple: usize) -> bool {
         self.ranks[couple] != UNMARKED
-    }
-
-    /// Number of settings of the run to a marked couple.
-    pub fn length(&self, couple: usize) -> usize {
-        usize::from(self.ranks[couple]) + 1
-    }
-
-    /// The resting couple before the last change of the run to a couple; none at a start.
-    pub fn parent(&self, couple: usize) -> Option<usize> {
-        (self.ranks[couple] > 0).then(|| usize::from(self.parents[couple]))
     }
 }

@@ -7,10 +7,13 @@ mod character;
 mod condition;
 mod contents;
 mod evolution;
+mod least;
 mod log;
 mod machine;
 mod marking;
+mod multi;
 mod plan;
+pub mod queue;
 mod readings;
 mod runs;
 mod sets;
@@ -22,10 +25,11 @@ pub use condition::holds;
 pub use evolution::evolution_holds;
 pub use log::update;
 pub use marking::mark;
-pub use plan::{plan, run_to};
-pub use readings::expected;
+pub use multi::{multi_list, multi_run_to};
+pub use plan::{plan, run_to, RunTo};
+pub use readings::{expected, multi_expected, Expected};
 pub use sets::{is_member, set_of, Set, EVERY_SETTING, NO_SETTING, POWER_UP};
-pub use sheet::{lines, sheet, Jobs, Plan, Read};
+pub use sheet::{lines, sheet, Jobs, Read, Write};
 pub use shorten::shorten;
 pub use specification::read;
 
@@ -57,6 +61,8 @@ pub const SETTINGS_OF_A_RUN: usize = 65_535;
 pub const ENTRIES: usize = 32;
 /// Bytes of the sheet program's plan buffer.
 pub const PLAN: usize = 65_536;
+/// Bytes of the sheet program's list buffer.
+pub const LIST: usize = 65_536;
 
 /// What a needed table byte holds after a refusal.
 pub const NO_MOVE: u8 = 255;

@@ -1,9 +1,12 @@
 //! Expected readings on a run.
 
 use super::machine::Machine;
-use super::runs::first_fault;
+use super::runs::{first_fault, Altered, ONE, SEVERAL};
 use super::{refuse_at, SETTINGS_OF_A_RUN};
 use crate::{Answer, Frame};
+
+/// Writing the readings expected on a run.
+pub type Expected = fn(Frame, &[u8], &[u16], &[u8], &mut [u16]) -> Answer;
 
 /// Writes the readings expected on a run; the place is their number.
 pub fn expected(
@@ -13,8 +16,32 @@ pub fn expected(
     run: &[u8],
     readings: &mut [u16],
 ) -> Answer {
+    expected_of(ONE, frame, table, words, run, readings)
+}
+
+/// Writes the readings expected on a run that may change several inputs at once; the place is their
+/// number.
+pub fn multi_expected(
+    frame: Frame,
+    table: &[u8],
+    words: &[u16],
+    run: &[u8],
+    readings: &mut [u16],
+) -> Answer {
+    expected_of(SEVERAL, frame, table, words, run, readings)
+}
+
+/// Writes the readings expected on a run whose changes alter so many inputs.
+fn expected_of(
+    altered: Altered,
+    frame: Frame,
+    table: &[u8],
+    words: &[u16],
+    run: &[u8],
+    readings: &mut [u16],
+) -> Answer {
     let lengths = (words.len(), readings.len());
-    match checked(frame, table, lengths, run) {
+    match checked(frame, table, lengths, run, altered) {
         Ok(machine) => Answer::done(write(&machine, words, run, readings)),
         Err(answer) => answer,
     }
@@ -31,6 +58,7 @@ fn checked<'a>(
     table: &'a [u8],
     lengths: (usize, usize),
     run: &[u8],
+    altered: Altered,
 ) -> Result<Machine<'a>, Answer> {
     let short_enough = run.len() <= SETTINGS_OF_A_RUN;
     let machine = Machine::new(frame, table, short_enough, |_| {
@@ -38,7 +66,7 @@ fn checked<'a>(
     })?;
     machine.check_states()?;
     machine.check_transients()?;
-    refuse_at(17, first_fault(&machine, run))?;
+    refuse_at(17, first_fault(&machine, run, altered))?;
     Ok(machine)
 }
 

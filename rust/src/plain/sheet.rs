@@ -1,25 +1,26 @@
 //! The text of the sheet.
 
-use super::runs::split_first;
-use super::{COUPLES, EVOLUTIONS, PLAN, STATES, UNMARKED};
+use super::runs::{split_first, split_multi};
+use super::{COUPLES, EVOLUTIONS, LIST, PLAN, STATES, UNMARKED};
 use crate::{Answer, Contents, Evolution, Frame};
-use std::io::Write;
+use std::io::Write as _;
 
 /// Reading a file.
 pub type Read = fn(&[u8], &mut [u8], &mut [u16], &mut [Evolution]) -> Contents;
-/// Writing the plan.
-pub type Plan = fn(Frame, &[u8], &mut [u16], &mut [u8]) -> Answer;
+/// Writing the plan, or the list.
+pub type Write = fn(Frame, &[u8], &mut [u16], &mut [u8]) -> Answer;
 
-/// The two jobs that a sheet is made of.
+/// The jobs that a sheet is made of.
 #[derive(Clone, Copy)]
 pub struct Jobs {
     pub read: Read,
-    pub plan: Plan,
+    pub plan: Write,
+    pub list: Write,
 }
 
 /// The sheet of a specification file, or the line of its refusal.
 pub fn sheet(file: &[u8]) -> Vec<u8> {
-    lines(Jobs { read: super::read, plan: super::plan }, file)
+    lines(Jobs { read: super::read, plan: super::plan, list: super::multi_list }, file)
 }
 
 /// The sheet of a specification file by the given jobs.
@@ -34,14 +35,24 @@ pub fn lines(jobs: Jobs, file: &[u8]) -> Vec<u8> {
     }
     let frame = contents.frame;
     let mut ranks = [UNMARKED; COUPLES];
-    let mut plan = vec![0; PLAN];
-    let answer = (jobs.plan)(frame, &table, &mut ranks, &mut plan);
-    if answer.number != 0 {
-        write_refusal(&mut text, answer, 0);
-        return text;
+    let mut write = |job: Write, bytes: usize| {
+        let mut buffer = vec![0; bytes];
+        let answer = job(frame, &table, &mut ranks, &mut buffer);
+        buffer.truncate(answer.place);
+        if answer.number == 0 {
+            Ok(buffer)
+        } else {
+            Err(answer)
+        }
+    };
+    match write(jobs.plan, PLAN).and_then(|plan| Ok((plan, write(jobs.list, LIST)?))) {
+        Ok((plan, list)) => {
+            write_ranks(&mut text, frame, &ranks[..frame.couples()]);
+            write_runs(&mut text, &plan);
+            write_list(&mut text, &list);
+        }
+        Err(answer) => write_refusal(&mut text, answer, 0),
     }
-    write_ranks(&mut text, frame, &ranks[..frame.couples()]);
-    write_runs(&mut text, &plan[..answer.place]);
     text
 }
 
@@ -79,12 +90,24 @@ fn write_ranks(text: &mut Vec<u8>, frame: Frame, ranks: &[u16]) {
 fn write_runs(text: &mut Vec<u8>, mut plan: &[u8]) {
     let mut number = 1;
     while let Some((settings, after)) = split_first(plan) {
-        write!(text, "RUN {number}").expect("a vector takes every byte");
-        for setting in settings {
-            write!(text, " {setting}").expect("a vector takes every byte");
-        }
-        text.push(b'\n');
+        write_run(text, "RUN", number, settings);
         number += 1;
         plan = after;
     }
+}
+
+fn write_list(text: &mut Vec<u8>, mut list: &[u8]) {
+    while let Some((multiple, settings, after)) = split_multi(list) {
+        write_run(text, "MULTI", multiple, settings);
+        list = after;
+    }
+}
+
+/// Adds one line: the word, a number, the settings.
+fn write_run(text: &mut Vec<u8>, word: &str, number: usize, settings: &[u8]) {
+    write!(text, "{word} {number}").expect("a vector takes every byte");
+    for setting in settings {
+        write!(text, " {setting}").expect("a vector takes every byte");
+    }
+    text.push(b'\n');
 }

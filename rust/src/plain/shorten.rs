@@ -1,7 +1,7 @@
 //! Shortening a plan: a run goes if other runs still in visit every couple that it visits.
 
 use super::machine::Machine;
-use super::runs::{first_fault, split_first, visits, LENGTH_BYTES};
+use super::runs::{first_fault, split_first, visits, LENGTH_BYTES, ONE};
 use crate::{Answer, Frame};
 use std::mem::replace;
 use std::ops::Range;
@@ -34,7 +34,7 @@ fn split(machine: &Machine, plan: &[u8]) -> Result<Vec<Range<usize>>, Answer> {
     let mut start = 0;
     while start < plan.len() {
         let run = split_first(&plan[start..]).map(|(run, _)| run);
-        let run = run.filter(|run| first_fault(machine, run).is_none());
+        let run = run.filter(|run| first_fault(machine, run, ONE).is_none());
         let end = start + LENGTH_BYTES + run.ok_or(Answer::refused(19, start))?.len();
         runs.push(start..end);
         start = end;

@@ -6,6 +6,8 @@
 
 #[path = "../cases/mod.rs"]
 mod cases;
+#[path = "../followed/mod.rs"]
+mod followed;
 mod library;
 mod shortened;
 mod steps;

@@ -1,6 +1,6 @@
 //! What the jobs are lent: lengths around the needed ones, junk, tables, runs.
 
-use mundrefol::generate::{any_table, spoil_run, walk, Random, Table};
+use mundrefol::generate::{any_table, spoil_run, Random, Table, Walk};
 use mundrefol::plain::{COUPLES, INPUTS, STATES};
 use mundrefol::Evolution;
 
@@ -76,7 +76,7 @@ pub fn lent_ranks(random: &mut Random, table: &Table) -> Vec<u16> {
 }
 
 /// Settings that mostly are a run of the table, sometimes with a fault, rarely very many.
-pub fn lent_run(random: &mut Random, table: &Table) -> Vec<u8> {
+pub fn lent_run(random: &mut Random, table: &Table, walk: Walk) -> Vec<u8> {
     let careless = random.once_in(5);
     let count = match random.below(400) {
         0 => random.between(65_534, 65_537),

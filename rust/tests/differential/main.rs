@@ -1,11 +1,13 @@
 //! The library against the independent implementation: answers and every element of every buffer,
 //! on seeded inputs. `MUNDREFOL_SEED` sets the seed; a failure names the seed and the case.
 
+mod both;
 #[path = "../cases/mod.rs"]
 mod cases;
 mod evolutions;
 mod lent;
 mod log;
+mod multi;
 mod optional;
 mod read;
 mod shorten;

@@ -8,7 +8,7 @@ const CONTENTS_WRONG: &str =
     "1: the file is too long or too short, or its mark, contents or end are wrong";
 
 /// What the script says of each refused example: the refusal's number, then its words.
-const EXPLAINED: [(&str, &str); 30] = [
+const EXPLAINED: [(&str, &str); 31] = [
     ("refused-01-kind-4-twice", CONTENTS_WRONG),
     ("refused-01-kind-6-before-5", CONTENTS_WRONG),
     ("refused-01-kinds-1-2-3-5", CONTENTS_WRONG),
@@ -122,7 +122,16 @@ const EXPLAINED: [(&str, &str); 30] = [
         "13: there is no start: the initial state 0 rests at none of the starts looked at: \
          the settings at which kind 6 holds (\"1\")",
     ),
-    ("refused-16-long-plan", "16: the plan needs 95040 bytes, more than the 65536 there are"),
+    (
+        "refused-16-long-list",
+        "16: the plan, or where that fits the list of runs that change several inputs at once, \
+         needs 85984 bytes, more than the 65536 there are",
+    ),
+    (
+        "refused-16-long-plan",
+        "16: the plan, or where that fits the list of runs that change several inputs at once, \
+         needs 95040 bytes, more than the 65536 there are",
+    ),
 ];
 
 #[test]

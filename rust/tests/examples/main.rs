@@ -6,9 +6,10 @@ mod cases;
 mod explained;
 
 use cases::try_cases;
+use mundrefol::file::{File, Leaving, State};
 use mundrefol::generate::{damaged, largest_file, settled_file};
-use mundrefol::plain::{lines, FILE};
-use mundrefol::{examples, plain};
+use mundrefol::plain::{lines, COUPLES, EVOLUTIONS, FILE, INPUTS, LIST, OUTPUTS, PLAN, STATES};
+use mundrefol::{examples, plain, Evolution};
 use std::collections::BTreeSet;
 use std::fs;
 use std::io::Write;
@@ -91,7 +92,8 @@ fn the_folder_holds_nothing_else() {
 
 #[test]
 fn sheets_are_those_of_both_implementations() {
-    let library = plain::Jobs { read: mundrefol::read, plan: mundrefol::plan };
+    let library =
+        plain::Jobs { read: mundrefol::read, plan: mundrefol::plan, list: mundrefol::multi_list };
     for example in examples::all() {
         let sheet = in_folder(&format!("{}.sheet", example.name));
         assert_text(example.name, &plain::sheet(&example.bytes), &sheet);
@@ -110,6 +112,45 @@ RUN 2 0 1
 RUN 3 0 1 0
 ";
     assert_text("lamp", &in_folder("lamp.sheet"), sheet.as_bytes());
+}
+
+/// After the plan, the gate's list: from setting 8 to 0, and on to each that single changes do not reach.
+#[test]
+fn gate_sheet_ends_with_its_list() {
+    let multi = [3, 7, 9, 10, 11, 13, 14, 15].map(|setting| format!("MULTI 1 8 0 {setting}\n"));
+    let sheet = String::from_utf8(in_folder("gate.sheet")).expect("a sheet is text");
+    assert!(sheet.ends_with(&format!("\nRUN 29 9 11 15\n{}", multi.concat())), "{sheet}");
+}
+
+/// A ring of states that step on when a, b and c are all on or all off; g and h only change together.
+/// Its plan and its list are both too long.
+fn long_plan_and_list() -> File {
+    let step = |state: usize| if state.is_multiple_of(2) { "a.b.c" } else { "!a.!b.!c" };
+    let rest = |state: usize| State { word: state as u16, rest: format!("!({})", step(state)) };
+    let leaving = |state: usize| Leaving {
+        source: state as u8,
+        target: ((state + 1) % STATES) as u8,
+        condition: step(state).to_string(),
+    };
+    let bare = File::new(INPUTS as u8, OUTPUTS as u8, &[], &[]).never("g.!h+!g.h");
+    let states = (0..STATES).map(rest).collect();
+    File { states, evolutions: (0..STATES).map(leaving).collect(), ..bare }
+}
+
+/// Where neither fits, the 16 is that of the plan.
+#[test]
+fn the_plans_refusal_comes_first() {
+    let file = long_plan_and_list().bytes();
+    let mut table = [0; COUPLES];
+    let mut records = [Evolution::default(); EVOLUTIONS];
+    let frame = mundrefol::read(&file, &mut table, &mut [0; STATES], &mut records).frame;
+    let by = |job: plain::Write| job(frame, &table, &mut [0; COUPLES], &mut []);
+    let [plan, list] = [mundrefol::plan, mundrefol::multi_list].map(by);
+    assert_eq!([plan.number, list.number], [16, 16]);
+    assert!(plan.place > PLAN && list.place > LIST && plan != list);
+    let refusal = format!("REFUSED 16 {}\n", plan.place);
+    assert_text("both long", &plain::sheet(&file), refusal.as_bytes());
+    assert_text("both long", &printed(None, &file), refusal.as_bytes());
 }
 
 /// Each refusal that a file can meet in the program has an example.
