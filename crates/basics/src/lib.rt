@@ -1,7 +1,10 @@
-// Numbers from one width to another, each cast once for every crate, and an element of a lent list.
+// The outputs of a word, numbers from one width to another, each cast once for every crate, and an element of a lent list.
 ghost use mathlib.Core.Path.{_≡_};
 ghost use Prim.Native.Nat.{_%_, _<_, _^_};
 ghost use lib.ListN.{getD};
+
+// The outputs of a word, and the most of a file.
+pub const OUTPUTS: usize = 16;
 
 pub fn wide(x: u8) -> usize
     ensures { λ r. ⌜ (r ≡ x) × (r < 2 ^ 8) ⌝ }

@@ -16,7 +16,8 @@ use Rattle.machine.specs.Couples.{differing}
 use Rattle.machine.specs.Runs.{usable, machineOf, bareMachine, startingAt}
 use Rattle.machine.specs.Plans.{SameRuns}
 use Rattle.machine.specs.declared.Frame.{Frame}
-use Rattle.machine.proofs.Tests.{every, decides-every}
+use Rattle.verdict.specs.Below.{every}
+use Rattle.verdict.proofs.Below.{decides-every}
 use Rattle.machine.proofs.Beyond.{same-runs}
 
 module _ (f : Frame) where

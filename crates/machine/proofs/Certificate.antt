@@ -17,7 +17,9 @@ use Rattle.machine.proofs.Order.{below-or}
 use Rattle.machine.proofs.Shortest.{rank-has, trail-rank}
 use Rattle.machine.proofs.Exists.{marked-below, marked-rank, trail-below}
 use Rattle.machine.proofs.Small.{rank-unique, rank-small}
-use Rattle.machine.proofs.Tests.{decides-every, every, starts, decides-starts, steps, decides-steps, whole}
+use Rattle.verdict.specs.Below.{every}
+use Rattle.verdict.proofs.Below.{decides-every}
+use Rattle.machine.proofs.Tests.{starts, decides-starts, steps, decides-steps, whole}
 use Rattle.verdict.specs.Checks.{Decides}
 use Rattle.verdict.proofs.Tests.{decides-map, decides-equal, decides-below, decides-not, _also_, decides-if}
 

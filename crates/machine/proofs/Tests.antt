@@ -1,31 +1,16 @@
--- Tests at each place below a number, and of starts, changes and steps: each from the tests of its parts.
-use mathlib.Core.Path.{_≡_, sym, ap, subst, _∙_}
-use mathlib.Core.Logic.{_⊎_, ⊎-elim}
+-- Tests of starts, changes and steps: each from the tests of its parts.
+use mathlib.Core.Path.{_≡_, sym, ap, _∙_}
+use mathlib.Core.Logic.{_⊎_}
 use mathlib.Core.Bool.{Bool, true, _&&_, cond}
-use Prim.Native.Nat.{ℕ, zero, suc, _/_, _%_, _<_}
+use Prim.Native.Nat.{ℕ, _/_, _%_}
 use native.Mathlib.Nat.{div-add-mod', mod-lt}
-use native.Mathlib.Omega.{arith}
 use lib.Dec.{eqb, ltb}
 use lib.Pow.{pow-pos, high, low}
 use Rattle.verdict.specs.Checks.{Decides}
-use Rattle.verdict.proofs.Tests.{it-holds, decides-map, decides-equal, decides-below, decides-true, _also_, decides-either}
+use Rattle.verdict.proofs.Tests.{decides-map, decides-equal, decides-below, decides-true, _also_, decides-either}
 use Rattle.machine.specs.Runs.{Machine, size, couple, move, Starts, Changes}
 use Rattle.machine.specs.inner.Trails.{Steps}
-use Rattle.machine.proofs.Order.{equal-or}
 use Rattle.machine.proofs.Trails.{stepped}
-
--- a test at each place below t
-unfoldable pub every : ℕ → (ℕ → Bool) → Bool
-every zero f = true
-every (suc t) f = f t && every t f
-
-pub decides-every : (t : ℕ) (f : ℕ → Bool) (P : ℕ → Type 0) → ((c : ℕ) → Decides (P c) (f c)) → Decides ((c : ℕ) → c < t → P c) (every t f)
-unfolding every
-decides-every zero f P each = it-holds (λ c l. absurd (omega arith))
-decides-every (suc t) f P each = decides-map
-    (λ x c l. ⊎-elim (λ e. subst P (sym e) (x .0)) (λ (e : c ≡ t → ⊥). x .1 c (omega arith)) (equal-or c t))
-    (λ x. (x t (omega arith), λ c l. x c (omega arith)))
-    (each t also decides-every t f P each)
 
 module _ (m : Machine) where
   unfoldable pub starts : ℕ → Bool

@@ -20,7 +20,7 @@ use Rattle.specification.specs.Reading.{CharacterFor}
 use Rattle.specification.specs.inner.Private.{Laid, Placed, soundChecks}
 use Rattle.specification.specs.declared.records.Sizes.{Sizes}
 use Rattle.specification.proofs.Entries.{count-few}
-use Rattle.specification.proofs.Laws.{sum-more, sum-below}
+use Rattle.verdict.proofs.Below.{sum-more, sum-below}
 
 module _ {file : List ℕ} {z : Sizes} (l : Laid file z) where
   -- two at most have no record

@@ -9,7 +9,8 @@ use mathlib.Core.List.{List, [], _∷_, _++_}
 use lib.ListN.{length, getD, drop, replicate, replicate-append-replicate}
 use Rattle.evolutions.specs.Evolutions.{blank}
 use Rattle.evolutions.specs.declared.Evolution.{Evolution}
-use Rattle.specification.specs.Records.{sumTo, recordAt, source, textLength, sizesOf}
+use Rattle.verdict.specs.Below.{sumTo}
+use Rattle.specification.specs.Records.{recordAt, source, textLength, sizesOf}
 use Rattle.specification.specs.Rules.{textAt}
 use Rattle.specification.specs.Evolutions.{evolutionOf, evolutions}
 use Rattle.specification.specs.inner.Filling.{placeOf, filledOf, filling, Fillable}
@@ -17,7 +18,7 @@ use Rattle.specification.specs.Reading.{ReadAs}
 use Rattle.specification.specs.inner.Private.{Laid, CoreAs}
 use Rattle.specification.specs.declared.records.Sizes.{Sizes}
 use Rattle.specification.specs.declared.answers.Core.{Core}
-use Rattle.specification.proofs.Laws.{sum-more}
+use Rattle.verdict.proofs.Below.{sum-more}
 
 module _ (file : List ℕ) (z : Sizes) (from text : ℕ) (ef : from ≡ recordAt z (z .states)) (ex : text ≡ textAt file z (z .states)) where
   -- byte k of evolution i

@@ -1,15 +1,16 @@
--- Facts on prefixes, sums and the layout of a file that several proofs cite: each by the law of one more step, and by arithmetic.
+-- Facts on prefixes and the layout of a file that several proofs cite: each by the law of one more step, and by arithmetic.
 use mathlib.Core.Path.{_≡_, refl, sym, ap, subst, _∙_}
 use mathlib.Core.List.{List}
-use mathlib.Core.Logic.{_⊎_, inl, inr, ⊎-elim}
+use mathlib.Core.Logic.{_⊎_, inl, inr}
 use Prim.Native.Nat.{ℕ, zero, suc, _+_, _*_, _/_, _^_, _≤_, _<_}
 use native.Mathlib.Omega.{arith}
 use native.Mathlib.Numerals.{add-one}
-use native.Mathlib.Nat.{not-suc-le-zero, le-of-suc-le-suc, eq-or-lt-of-le}
 use lib.ListN.{length, getD, take, length-take}
 use lib.Seq.{getD-take, ext-getD, length-take-le}
 use Rattle.specification.specs.File.{countOf, entryAt, startOf, lengthOf, kinds, WellFormed}
-use Rattle.specification.specs.Records.{sumTo, sizesOf, Sized, records, word, source, target, Beyond, output-beyond, source-beyond, target-beyond}
+use Rattle.verdict.specs.Below.{sumTo}
+use Rattle.verdict.proofs.Below.{sum-le}
+use Rattle.specification.specs.Records.{sizesOf, Sized, records, word, source, target, Beyond, output-beyond, source-beyond, target-beyond}
 use Rattle.specification.specs.inner.Private.{Laid, Wrong}
 use Rattle.specification.specs.declared.records.Sizes.{Sizes}
 use Rattle.specification.specs.declared.records.RecordCheck.{RecordCheck}
@@ -36,19 +37,6 @@ start-first file = refl
 pub start-more : (file : List ℕ) (k : ℕ) → startOf file (k + 1) ≡ startOf file k + lengthOf file k
 unfolding startOf
 start-more file k = rw add-one
-
--- sums
-pub sum-more : (f : ℕ → ℕ) (k : ℕ) → sumTo f (k + 1) ≡ sumTo f k + f k
-unfolding sumTo
-sum-more f k = rw add-one
-
-pub sum-below : (f : ℕ → ℕ) (k n : ℕ) → k < n → sumTo f k + f k ≤ sumTo f n
-unfolding sumTo
-sum-below f k zero h = absurd (not-suc-le-zero h)
-sum-below f k (suc n) h = ⊎-elim (λ e. omega (arith, ap (sumTo f) e, ap f e)) (λ l. omega (arith, sum-below f k n l)) (eq-or-lt-of-le (le-of-suc-le-suc h))
-
-pub sum-le : (f : ℕ → ℕ) (k n : ℕ) → k ≤ n → sumTo f k ≤ sumTo f n
-sum-le f k n h = ⊎-elim (λ e. omega (arith, ap (sumTo f) e)) (λ l. omega (arith, sum-below f k n l)) (eq-or-lt-of-le h)
 
 -- bodies by their lengths, summed
 start-sum : (file : List ℕ) (k : ℕ) → startOf file k ≡ entryAt (countOf file) + sumTo (lengthOf file) k

@@ -33,7 +33,8 @@ use Rattle.specification.specs.Reading.{ReadHere, ReadAs}
 use Rattle.specification.specs.Before.{AnyStart}
 use Rattle.specification.specs.declared.Contents.{Contents}
 use Rattle.specification.specs.declared.records.Sizes.{Sizes}
-use Rattle.specification.proofs.Laws.{sum-below, laid}
+use Rattle.verdict.proofs.Below.{sum-below}
+use Rattle.specification.proofs.Laws.{laid}
 use Rattle.specification.proofs.Optional.{none-never, zero-allowed, any-allowed}
 use Rattle.specification.proofs.Once.{no-two-rules}
 use Rattle.specification.proofs.Settling.{same-rule}

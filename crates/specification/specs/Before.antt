@@ -10,7 +10,8 @@ use Rattle.verdict.specs.Checks.{Check, check, Unless, Short}
 use Rattle.machine.specs.Moves.{Transient, SameWord, Unreached, Start}
 use Rattle.specification.specs.Limits.{mostBytes}
 use Rattle.specification.specs.File.{mark, countOf, entryAt, kindOf, offsetOf, lengthOf, startOf, bodyOf, kinds, startsKind, EntryOf, Measured}
-use Rattle.specification.specs.Records.{sumTo, sizesOf, settings, couples, records, textLength, word, Ranges, Beyond, Own, Twice}
+use Rattle.verdict.specs.Below.{sumTo}
+use Rattle.specification.specs.Records.{sizesOf, settings, couples, records, textLength, word, Ranges, Beyond, Own, Twice}
 use Rattle.specification.specs.Rules.{textOf, TwoRules, NoRule, Moves}
 use Rattle.specification.specs.declared.records.Sizes.{Sizes}
 

@@ -1,9 +1,5 @@
--- Sizes of a file (document 01, "The ground"); inputs and states are those of a machine. Assumes nothing: these are definitions.
+-- Sizes of a file (document 01, "The ground"); inputs and states are those of a machine, outputs those of a word. Assumes nothing: these are definitions.
 use Prim.Native.Nat.{ℕ}
-
--- 1 to 16 outputs
-abbrev pub mostOutputs : ℕ
-mostOutputs = 16
 
 -- at most 992 evolutions
 abbrev pub mostEvolutions : ℕ

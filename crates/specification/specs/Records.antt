@@ -1,17 +1,14 @@
 -- Sizes and records (document 01, "Specification file"): refusals 2, 4, 6 and 7. Assumes nothing: these are definitions.
 use mathlib.Core.Path.{_≡_}
 use mathlib.Core.List.{List}
-use Prim.Native.Nat.{ℕ, zero, suc, _+_, _*_, _-_, _/_, _^_, _≤_, _<_}
+use Prim.Native.Nat.{ℕ, _+_, _*_, _-_, _/_, _^_, _≤_, _<_}
 use lib.ListN.{getD}
 use Rattle.machine.specs.Limits.{mostInputs, mostStates}
-use Rattle.specification.specs.Limits.{mostOutputs, mostEvolutions, mostText}
+use Rattle.basics.specs.Words.{mostOutputs}
+use Rattle.verdict.specs.Below.{sumTo}
+use Rattle.specification.specs.Limits.{mostEvolutions, mostText}
 use Rattle.specification.specs.File.{twoAt, countOf, lengthOf, startOf, kinds}
 use Rattle.specification.specs.declared.records.Sizes.{Sizes}
-
--- f 0 + … + f (k - 1)
-unfoldable pub sumTo : (ℕ → ℕ) → ℕ → ℕ
-sumTo f zero = 0
-sumTo f (suc k) = sumTo f k + f k
 
 -- kind 1: inputs, outputs, states, initial state; kind 3: three bytes an evolution; the records begin with kind 2; bodies beyond kind 4
 abbrev pub sizesOf : List ℕ → Sizes

@@ -10,7 +10,8 @@ use Rattle.sets.specs.Sets.{words, SetOf}
 use Rattle.machine.specs.Couples.{Couple}
 use Rattle.machine.specs.declared.Frame.{Frame}
 use Rattle.specification.specs.File.{kinds, neverKind, startsKind, bodyOf, EntryOf, Has}
-use Rattle.specification.specs.Records.{sumTo, sizesOf, settings, couples, records, recordAt, source, target, textLength}
+use Rattle.verdict.specs.Below.{sumTo}
+use Rattle.specification.specs.Records.{sizesOf, settings, couples, records, recordAt, source, target, textLength}
 use Rattle.specification.specs.declared.records.Sizes.{Sizes}
 
 -- kind 4 follows the records: the condition texts, states first, then evolutions, end to end

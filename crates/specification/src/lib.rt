@@ -16,9 +16,6 @@ use evolutions::Evolution;
 use machine::Frame;
 use verdict::Answer;
 
-// The most outputs.
-pub const OUTPUTS: usize = 16;
-
 // The most evolutions.
 pub const EVOLUTIONS: usize = 992;
 

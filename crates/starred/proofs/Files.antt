@@ -10,9 +10,10 @@ use Rattle.verdict.proofs.Order.{halt}
 use Rattle.verdict.proofs.Tests.{it-holds, decides-map, decides-equal}
 use Rattle.condition.specs.Grammar.{condition, Tree, one, more, bang, paren, on, input, text, opened, holds}
 use Rattle.machine.specs.Moves.{Reached, start, step, tableMoves}
-use Rattle.machine.proofs.Tests.{every}
+use Rattle.verdict.specs.Below.{every}
 use Rattle.specification.specs.File.{startOf, neverKind, startsKind}
-use Rattle.specification.specs.Records.{sumTo, sizesOf}
+use Rattle.verdict.specs.Below.{sumTo}
+use Rattle.specification.specs.Records.{sizesOf}
 use Rattle.specification.specs.Rules.{conditionOf, ruleOf, leadsTo, TableOf, power-up, FrameOf}
 use Rattle.specification.specs.Before.{AnyStart}
 use Rattle.specification.proofs.Optional.{none-never, zero-allowed, any-allowed}

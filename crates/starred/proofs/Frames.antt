@@ -16,7 +16,8 @@ use Rattle.sets.proofs.Members.{zeros, member-beyond}
 use Rattle.sets.proofs.Arrays.{set-none}
 use Rattle.machine.specs.Limits.{mostInputs}
 use Rattle.machine.proofs.Order.{below-or}
-use Rattle.machine.proofs.Tests.{every, decides-every}
+use Rattle.verdict.specs.Below.{every}
+use Rattle.verdict.proofs.Below.{decides-every}
 use Rattle.specification.specs.File.{neverKind, Has}
 use Rattle.specification.specs.Records.{sizesOf, settings}
 use Rattle.specification.specs.Rules.{Allowed, FrameOf}

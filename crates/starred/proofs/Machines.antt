@@ -12,7 +12,9 @@ use Rattle.machine.specs.Couples.{differing}
 use Rattle.machine.specs.Runs.{Machine, size, couples, move, Sound, Marked, Rank, RankOrUnmarked}
 use Rattle.machine.specs.inner.Model.{Listed}
 use Rattle.verdict.proofs.Tests.{decides-equal, decides-below}
-use Rattle.machine.proofs.Tests.{every, decides-every, starts, changes, steps}
+use Rattle.verdict.specs.Below.{every}
+use Rattle.verdict.proofs.Below.{decides-every}
+use Rattle.machine.proofs.Tests.{starts, changes, steps}
 use Rattle.machine.proofs.Certificate.{right, by-test}
 use Rattle.starred.specs.Rows.{lampTable, gateTable, lamp, gate}
 

@@ -11,10 +11,13 @@ use Rattle.verdict.specs.Checks.{Decides, None}
 use Rattle.machine.specs.Limits.{mostInputs, mostStates}
 use Rattle.machine.specs.Moves.{SameWord}
 use Rattle.verdict.proofs.Tests.{decides-leb, decides-equal, decides-below, decides-not, decides-either, _also_}
-use Rattle.machine.proofs.Tests.{every, decides-every}
-use Rattle.specification.specs.Limits.{mostOutputs, mostEvolutions, mostBytes, mostText}
+use Rattle.verdict.specs.Below.{every}
+use Rattle.verdict.proofs.Below.{decides-every}
+use Rattle.basics.specs.Words.{mostOutputs}
+use Rattle.specification.specs.Limits.{mostEvolutions, mostBytes, mostText}
 use Rattle.specification.specs.File.{mark, countOf, entryAt, kinds, startsKind, kindOf, offsetOf, lengthOf, startOf, Has, WellFormed}
-use Rattle.specification.specs.Records.{sumTo, sizesOf, records, word, source, target, textLength, Sized, Evolves, Beyond, Own, Twice}
+use Rattle.verdict.specs.Below.{sumTo}
+use Rattle.specification.specs.Records.{sizesOf, records, word, source, target, textLength, Sized, Evolves, Beyond, Own, Twice}
 use Rattle.specification.specs.Records.Beyond.{output-beyond, source-beyond, target-beyond}
 
 decides-most : (c d : ℕ) → Decides (c ≤ d) (leb c d)

@@ -19,7 +19,8 @@ use Rattle.machine.specs.Moves.{tableMoves}
 use Rattle.machine.proofs.Couples.{couple-below}
 use Rattle.machine.proofs.Same.{Into}
 use Rattle.verdict.proofs.Tests.{true≢false, it-holds, it-fails, decides-map, decides-true, decides-equal, decides-below, _also_, decides-is}
-use Rattle.machine.proofs.Tests.{every, decides-every}
+use Rattle.verdict.specs.Below.{every}
+use Rattle.verdict.proofs.Below.{decides-every}
 use Rattle.specification.specs.Records.{sizesOf, settings, couples, records}
 use Rattle.specification.specs.Rules.{textOf, conditions, conditionOf, ruleOf, leadsTo, Unreads, Fires, TwoRules, NoRule, Moves, MoveAt}
 use Rattle.specification.proofs.Conditions.{condition-record}

@@ -4,7 +4,7 @@ use native.Mathlib.Omega.{arith}
 use mathlib.Core.Path.{refl, sym, ap, _∙_}
 use Rattle.specification.specs.Records.{records, textLength}
 use Rattle.specification.specs.Reading.{refusalOf}
-use Rattle.specification.proofs.Laws.{sum-le}
+use Rattle.verdict.proofs.Below.{sum-le}
 use Rattle.specification.proofs.answers.outcome.Statement.{statement}
 use Rattle.specification.proofs.answers.outcome.Tie as tie
 

@@ -4,7 +4,7 @@ use native.Mathlib.Omega.{arith}
 use lib.Pow.{pow-mono}
 use Prim.Native.Nat.{_*_, _%_, _^_}
 use Rattle.verdict.proofs.Tests.{decides-leb}
-use Rattle.specification.specs.Limits.{mostOutputs}
+use Rattle.basics.specs.Words.{mostOutputs}
 use Rattle.specification.proofs.records.overflows.Statement.{statement}
 use Rattle.specification.proofs.records.overflows.Tie as tie
 

@@ -8,7 +8,8 @@ use lib.ListN.{length, getD}
 use borrow.Author.Tests.{not-true, not-false}
 use Rattle.verdict.proofs.Tests.{it-fails, decides-map}
 use Rattle.specification.specs.File.{countOf, lengthOf, kinds, WellFormed}
-use Rattle.specification.specs.Records.{sumTo, records, recordAt, textLength, sizesOf, Ranges}
+use Rattle.verdict.specs.Below.{sumTo}
+use Rattle.specification.specs.Records.{records, recordAt, textLength, sizesOf, Ranges}
 use Rattle.specification.specs.inner.Private.{Decoded}
 use Rattle.specification.specs.declared.file.Bodies.{Bodies}
 use Rattle.specification.specs.declared.records.Sizes.{Sizes}

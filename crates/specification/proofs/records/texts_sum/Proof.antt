@@ -3,8 +3,9 @@ use borrow.Author.Needs.{needs}
 use native.Mathlib.Omega.{arith}
 use mathlib.Core.Path.{_≡_, ap}
 use Prim.Native.Nat.{_*_, _-_, _^_, _≤_}
-use Rattle.specification.specs.Records.{sumTo, textLength}
-use Rattle.specification.proofs.Laws.{sum-more}
+use Rattle.verdict.specs.Below.{sumTo}
+use Rattle.specification.specs.Records.{textLength}
+use Rattle.verdict.proofs.Below.{sum-more}
 use Rattle.specification.proofs.records.texts_sum.Statement.{statement}
 use Rattle.specification.proofs.records.texts_sum.Tie as tie
 

@@ -5,10 +5,11 @@ use mathlib.Core.Path.{_≡_, ap, _∙_}
 use Prim.Native.Nat.{_*_, _-_, _^_, _≤_}
 use Rattle.verdict.specs.Buffers.{Filled}
 use Rattle.verdict.proofs.Fills.{filled-none, filled-more, filled-at}
-use Rattle.specification.specs.Records.{sumTo, records, textLength}
+use Rattle.verdict.specs.Below.{sumTo}
+use Rattle.specification.specs.Records.{records, textLength}
 use Rattle.specification.specs.Rules.{textAt}
 use Rattle.specification.proofs.Conditions.{placed}
-use Rattle.specification.proofs.Laws.{sum-more}
+use Rattle.verdict.proofs.Below.{sum-more}
 use Rattle.specification.proofs.rules.places_of.Statement.{statement}
 use Rattle.specification.proofs.rules.places_of.Tie as tie
 
