@@ -1,7 +1,8 @@
 -- The exports promise what the libraries do, whose theorems leave one outcome; an update's answer in numbers is one.
 use mathlib.Core.Path.{_≡_, sym, ap, _∙_}
 use Rattle.bench.specs.declared.Log.{Log}
-use Rattle.bench.specs.Log.{Reading, Outcome, updateOf}
+use Rattle.bench.specs.declared.Reading.{Reading}
+use Rattle.bench.specs.Log.{Outcome, updateOf}
 use Rattle.abi.specs.declared.Noted.{Noted}
 use Rattle.abi.specs.Answers.{outcomeOf}
 

@@ -14,6 +14,7 @@ ghost use Rattle.readings.specs.Expected.{ExpectedAs};
 ghost use Rattle.bench.specs.Log.{numberOf, placeOf, kindOf, updateOf};
 ghost use Rattle.abi.specs.Answers.{outcomeOf};
 use bench::Log;
+use bench::Reading;
 use evolutions::Evolution;
 use machine::Frame;
 use specification::Contents;
@@ -164,7 +165,14 @@ pub extern "C" fn mundrefol_update(
 ) -> Noted
     ensures { λ r. ⌜ outcomeOf r (now (log .exit)) ≡ updateOf (now (log .entry)) (record { run = run; change = change; second = second; expected = expected; seen = seen }) ⌝ }
 {
-    let answer = bench::update(log, run, change, second, expected, seen);
+    let reading = Reading {
+        run: run,
+        change: change,
+        second: second,
+        expected: expected,
+        seen: seen,
+    };
+    let answer = bench::update(log, reading);
     in_numbers(answer)
 }
 

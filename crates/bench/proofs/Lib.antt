@@ -1,5 +1,6 @@
+pub mod Differing
 pub mod Soundness
 pub mod Cases
 pub mod Only
 pub mod History
-pub mod Given
+pub mod Lent

@@ -2,10 +2,11 @@
 use mathlib.Core.Path.{_≡_, refl, sym, ap, _∙_}
 use mathlib.Core.Bool.{cond}
 use lib.Dec.{eqb}
+use Rattle.bench.specs.declared.Reading.{Reading}
 use Rattle.bench.specs.declared.Log.{Log}
 use Rattle.bench.specs.declared.Noted.{Noted}
 use Rattle.bench.specs.declared.Noted.the-variants.{Equal, Stored, Full, Refused}
-use Rattle.bench.specs.Log.{Reading, Outcome, stored, full, refused, outcome, updateOf}
+use Rattle.bench.specs.Log.{Outcome, stored, full, refused, outcome, updateOf}
 
 -- the answer of this kind
 abbrev answerOf : Outcome → Noted

@@ -1,13 +1,17 @@
--- The bench log (document 01): what a reading answers, what an update makes of the log, and when it is refused.
--- A log has readings, differing readings, entries kept, and the first 32 differences (run, change, first or second reading).
+-- The bench log (documents 01 and 02): what a reading answers, what an update makes of the log, and when it is refused.
+-- A log has readings, differing readings, entries kept, the first 32 differences, and for each output the readings in which it differed.
 use Prim.Native.Nat.{ℕ, _+_, min}
-use mathlib.Core.Bool.{Bool, cond, not, _&&_, _||_}
+use mathlib.Core.Bool.{Bool, true, false, cond, not, _&&_, _||_}
+use mathlib.Core.List.{List}
 use lib.Dec.{ltb, leb, eqb}
-use lib.ListN.{set}
-use Rattle.bench.specs.declared.Entry.{Entry}
+use lib.ListN.{getD, take, set}
+use Rattle.basics.specs.Words.{mostOutputs}
+use Rattle.verdict.specs.Below.{every, sumTo, listTo}
+use Rattle.bench.specs.declared.Reading.{Reading}
 use Rattle.bench.specs.declared.Log.{Log}
 use Rattle.bench.specs.declared.Noted.{Noted}
 use Rattle.bench.specs.declared.Noted.the-variants.{Equal, Stored, Full, Refused}
+use Rattle.bench.specs.Readings.{differs, differsIn, times, oneIf}
 
 -- the first 32 differences are kept, and up to 4,294,967,295 readings counted
 abbrev pub mostEntries : ℕ
@@ -16,17 +20,20 @@ mostEntries = 32
 abbrev pub mostReadings : ℕ
 mostReadings = 4294967295
 
--- a reading as the bench gives it
-pub record Reading : Type 0 where
-  pub run : ℕ
-  pub change : ℕ
-  pub second : Bool
-  pub expected : ℕ
-  pub seen : ℕ
+-- the entries kept
+abbrev pub keptOf : Log → List Reading
+keptOf l = take (l .kept) (l .entries)
 
--- a reading compares an expected and a seen word
-abbrev pub differs : Reading → Bool
-differs r = not (eqb (r .expected) (r .seen))
+-- an entry of a fresh log
+abbrev pub blank : Reading
+blank = record { run = 0; change = 0; second = false; expected = 0; seen = 0 }
+
+-- entry i, and the count of output j
+abbrev pub entryAt : Log → ℕ → Reading
+entryAt l i = getD (l .entries) i blank
+
+abbrev pub countAt : Log → ℕ → ℕ
+countAt l j = getD (l .outputs) j 0
 
 -- a difference is stored while fewer than 32 are kept
 abbrev pub stores : Log → Reading → Bool
@@ -48,26 +55,31 @@ refused = 3
 abbrev pub kindAt : Log → Reading → ℕ
 kindAt l r = cond (differs r) (cond (stores l r) stored full) equal
 
--- run, change and first-or-second are stored as the bench gives them
-abbrev pub entryOf : Reading → Entry
-entryOf r = record { run = r .run; change = r .change; second = r .second }
-
--- one more where it holds
-abbrev pub counted : Bool → ℕ
-counted b = cond b 1 0
-
--- an update changes only the counts and, for stored, the one new entry; full still counts it as differing
+-- an update changes only the counts and, for stored, the one new entry, which is the reading as the bench gives it;
+-- full still counts it as differing, and each output that differed
 abbrev pub noted : Log → Reading → Log
 noted l r = record {
   readings = l .readings + 1;
-  differing = l .differing + counted (differs r);
-  kept = l .kept + counted (stores l r);
-  entries = cond (stores l r) (set (l .entries) (l .kept) (entryOf r)) (l .entries);
+  differing = l .differing + oneIf (differs r);
+  kept = l .kept + oneIf (stores l r);
+  entries = cond (stores l r) (set (l .entries) (l .kept) r) (l .entries);
+  outputs = listTo (λ j. countAt l j + oneIf (differsIn j r)) mostOutputs;
 }
 
--- sound: kept entries = the smaller of 32 and differing; differing ≤ readings
 abbrev pub sound : Log → Bool
-sound l = eqb (l .kept) (min mostEntries (l .differing)) && leb (l .differing) (l .readings)
+sound l =
+    -- kept entries = the smaller of 32 and differing
+    eqb (l .kept) (min mostEntries (l .differing))
+    -- differing ≤ readings
+    && leb (l .differing) (l .readings)
+    -- no kept entry has two equal words
+    && every (l .kept) (λ i. differs (entryAt l i))
+    -- no output's count is above differing
+    && every mostOutputs (λ j. leb (countAt l j) (l .differing))
+    -- the sum of the counts is not below differing
+    && leb (l .differing) (sumTo (countAt l) mostOutputs)
+    -- with fewer than 33 differences, each count equals that of the kept entries
+    && cond (leb (l .differing) mostEntries) (every mostOutputs (λ j. eqb (countAt l j) (times (keptOf l) j))) true
 
 -- 18: log not sound, or its readings at 4,294,967,295
 abbrev pub refuses : Log → Bool
