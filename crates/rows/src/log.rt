@@ -1,110 +1,169 @@
-// The rows about the bench log: what was done, the answer, then readings, differing and kept.
+// The rows about the bench log: what was done, the answer, then readings, differing and kept; entries, and the outputs' counts.
+use crate::compared::same;
 use crate::lines::end;
 use crate::lines::name;
 use crate::lines::number;
 use crate::lines::word;
+use basics::OUTPUTS;
 use bench::ENTRIES;
-use bench::Entry;
 use bench::Log;
 use bench::Noted;
 use bench::READINGS;
+use bench::Reading;
 use bench::Stepped;
 
 pub(crate) fn rows() {
-    filled();
-    equal_words();
+    let one = differences(bench::fresh(), 0, 1);
+    let five = differences(one, 1, 5);
+    let most_kept = differences(five, 5, 32);
+    let first_full = differences(most_kept, 32, 33);
+    let log = differences(first_full, 33, 40);
+    filled(log);
+    equal_words(log);
     last_output();
-    unsound();
-    most_readings();
+    unsound(log, five);
+    wrong_outputs(log);
+    few_outputs(most_kept, first_full);
+    most_readings(log);
 }
 
-// Differences up to and past the 32nd, and the first and the last entry that 40 of them leave.
-fn filled() {
-    difference(1);
-    difference(32);
-    difference(33);
-    difference(40);
-    let noted = differences(40);
-    let log = noted.log;
+// Differences noted in this log, at changes of run 1 from one behind `from` up to `to`: 0 is expected, and the change's number seen.
+fn differences(log: Log, from: u16, to: u16) -> Log {
+    let mut noted = Stepped {
+        answer: Noted::Equal,
+        log: log,
+    };
+    let mut change = from;
+    while change < to {
+        change += 1;
+        let before = noted.log;
+        noted = bench::updated(before, given(1, change, 0, change));
+    }
+    name(b"difference");
+    number(to as u64);
+    told(noted);
+    noted.log
+}
+
+// The first and the last entry that 40 differences leave, and the counts.
+fn filled(log: Log) {
     let entries = log.entries;
     entry(b"first entry", entries[0]);
     entry(b"last entry", entries[ENTRIES - 1]);
-}
-
-fn difference(count: u16) {
-    let noted = differences(count);
-    name(b"difference");
-    number(count as u64);
-    told(noted);
+    outputs(b"outputs of 40", log);
 }
 
 // Equal words, on a fresh log and on a full one.
-fn equal_words() {
-    row(
-        b"equal words",
-        bench::updated(bench::fresh(), 1, 0, false, 65535, 65535),
-    );
-    let full = differences(40);
-    row(
-        b"equal words, log full",
-        bench::updated(full.log, 2, 0, false, 3, 3),
-    );
+fn equal_words(full: Log) {
+    row(b"equal words", bench::fresh(), given(1, 0, 65535, 65535));
+    row(b"equal words, log full", full, given(2, 0, 3, 3));
 }
 
 // Words that differ in the last output alone, stored as given.
 fn last_output() {
-    let noted = bench::updated(bench::fresh(), 65535, 65534, true, 0, 32768);
-    row(b"last output differs", noted);
+    let last = Reading {
+        run: 65535,
+        change: 65534,
+        second: true,
+        expected: 0,
+        seen: 32768,
+    };
+    row(b"last output differs", bench::fresh(), last);
+    let noted = bench::updated(bench::fresh(), last);
     let log = noted.log;
     let entries = log.entries;
     entry(b"its entry", entries[0]);
+    outputs(b"its outputs", log);
 }
 
-// Logs that are not sound.
-fn unsound() {
-    refusal(b"kept 31 of 40", 40, 40, 31, 1);
-    refusal(b"kept 33 of 40", 40, 40, 33, 1);
-    refusal(b"kept 5 of 6", 6, 6, 5, 1);
-    refusal(b"differing 41 of 40", 40, 41, 32, 1);
+// Logs whose counts or entries are not sound, each in one way.
+fn unsound(log: Log, five: Log) {
+    refusal(b"kept 31 of 40", with_counts(log, 40, 40, 31), 1);
+    refusal(b"kept 33 of 40", with_counts(log, 40, 40, 33), 1);
+    refusal(b"kept 5 of 6", with_counts(five, 6, 6, 5), 1);
+    refusal(b"differing 41 of 40", with_counts(log, 40, 41, 32), 1);
+    let mut other = log;
+    other.entries[5] = given(1, 6, 6, 6);
+    refusal(b"entry 6 of 40 with equal words", other, 1);
 }
 
-// Readings one short of their most, and at it.
-fn most_readings() {
-    let last = with_counts(READINGS - 1, 40, 32);
-    row(b"last reading", bench::updated(last, 3, 1, false, 0, 1));
-    refusal(b"readings at their most", READINGS, 40, 32, 1);
-    refusal(b"the same, equal words", READINGS, 40, 32, 0);
+// Outputs' counts that are too large, or add up to too little.
+fn wrong_outputs(log: Log) {
+    refusal(b"output 0 in 41 of 40", with_output(log, 0, 41), 1);
+    refusal(b"outputs add up to 39 of 40", with_outputs(log, 39, 0), 1);
+    taken(b"outputs add up to 40 of 40", with_outputs(log, 40, 0));
 }
 
-// The log after so many differences, at changes 1, 2 and so on of run 1, and what the last one answered.
-fn differences(count: u16) -> Stepped {
-    let mut noted = Stepped {
-        answer: Noted::Equal,
-        log: bench::fresh(),
-    };
-    let mut change: u16 = 0;
-    while change < count {
-        change += 1;
-        let log = noted.log;
-        noted = bench::updated(log, 1, change, false, 0, 1);
+// A count that is not that of the entries: with 32 differences, and with 33.
+fn few_outputs(most_kept: Log, first_full: Log) {
+    refusal(
+        b"output 5 in 2 of 32, not 1",
+        with_output(most_kept, 5, 2),
+        1,
+    );
+    taken(b"output 5 in 1 of 33, not 2", with_output(first_full, 5, 1));
+}
+
+// Readings one short of their most, and at it; counts that add up to 2 to the 32nd.
+fn most_readings(log: Log) {
+    taken(b"last reading", with_counts(log, READINGS - 1, 40, 32));
+    let all = with_counts(log, READINGS - 1, READINGS - 1, 32);
+    taken(
+        b"outputs add up to 4294967296",
+        with_outputs(all, 268435456, 268435456),
+    );
+    refusal(
+        b"readings at their most",
+        with_counts(log, READINGS, 40, 32),
+        1,
+    );
+    refusal(
+        b"the same, equal words",
+        with_counts(log, READINGS, 40, 32),
+        0,
+    );
+}
+
+// A first reading.
+fn given(run: u16, change: u16, expected: u16, seen: u16) -> Reading {
+    Reading {
+        run: run,
+        change: change,
+        second: false,
+        expected: expected,
+        seen: seen,
     }
-    noted
 }
 
-// The log that 40 differences leave, with other counts.
-fn with_counts(readings: u32, differing: u32, kept: u32) -> Log {
-    let noted = differences(40);
-    let mut other = noted.log;
+// The log with other counts of readings.
+fn with_counts(log: Log, readings: u32, differing: u32, kept: u32) -> Log {
+    let mut other = log;
     other.readings = readings;
     other.differing = differing;
     other.kept = kept;
     other
 }
 
-// A reading of the log with these counts, where 0 is expected, and whether it left the log as it was.
-fn refusal(what: &[u8], readings: u32, differing: u32, kept: u32, seen: u16) {
-    let log = with_counts(readings, differing, kept);
-    let noted = bench::updated(log, 3, 1, false, 0, seen);
+// The log with another count of one output.
+fn with_output(log: Log, output: usize, count: u32) -> Log {
+    let mut other = log;
+    if output < OUTPUTS {
+        other.outputs[output] = count;
+    }
+    other
+}
+
+// The log with this count of output 0, and that of all others.
+fn with_outputs(log: Log, first: u32, others: u32) -> Log {
+    let mut other = log;
+    other.outputs = [others; OUTPUTS];
+    other.outputs[0] = first;
+    other
+}
+
+// A reading of this log, where 0 is expected, and whether it left the log as it was.
+fn refusal(what: &[u8], log: Log, seen: u16) {
+    let noted = bench::updated(log, given(3, 1, 0, seen));
     let answer = noted.answer;
     let after = noted.log;
     name(what);
@@ -117,9 +176,17 @@ fn refusal(what: &[u8], readings: u32, differing: u32, kept: u32, seen: u16) {
     end();
 }
 
-fn row(what: &[u8], noted: Stepped) {
+// A difference in output 0 noted in this log, and the counts after it.
+fn taken(what: &[u8], log: Log) {
+    let noted = bench::updated(log, given(3, 1, 0, 1));
     name(what);
     told(noted);
+    outputs(b"outputs", noted.log);
+}
+
+fn row(what: &[u8], log: Log, reading: Reading) {
+    name(what);
+    told(bench::updated(log, reading));
 }
 
 fn told(noted: Stepped) {
@@ -132,7 +199,7 @@ fn told(noted: Stepped) {
     end();
 }
 
-fn entry(what: &[u8], e: Entry) {
+fn entry(what: &[u8], e: Reading) {
     name(what);
     number(e.run as u64);
     number(e.change as u64);
@@ -140,6 +207,19 @@ fn entry(what: &[u8], e: Entry) {
         word(b"second");
     } else {
         word(b"first");
+    }
+    number(e.expected as u64);
+    number(e.seen as u64);
+    end();
+}
+
+fn outputs(what: &[u8], log: Log) {
+    name(what);
+    word(b"|");
+    let counts = log.outputs;
+    for j in 0..OUTPUTS {
+        let count = counts[j];
+        number(count as u64);
     }
     end();
 }
@@ -159,37 +239,4 @@ fn said(answer: Noted) {
             word(b"refused 18 0");
         }
     }
-}
-
-// Whether the two logs have the same counts and the same entries.
-fn same(a: Log, b: Log) -> bool {
-    if a.readings != b.readings {
-        return false;
-    }
-    if a.differing != b.differing {
-        return false;
-    }
-    if a.kept != b.kept {
-        return false;
-    }
-    let xs = a.entries;
-    let ys = b.entries;
-    let mut i: usize = 0;
-    while i < ENTRIES {
-        if !same_entry(xs[i], ys[i]) {
-            return false;
-        }
-        i += 1;
-    }
-    true
-}
-
-fn same_entry(a: Entry, b: Entry) -> bool {
-    if a.run != b.run {
-        return false;
-    }
-    if a.change != b.change {
-        return false;
-    }
-    a.second == b.second
 }

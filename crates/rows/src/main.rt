@@ -2,6 +2,7 @@
 // short name of the row, then its numbers.
 mod apart;
 mod changes;
+mod compared;
 mod conditions;
 mod frames;
 mod lamps;

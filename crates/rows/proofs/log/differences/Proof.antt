@@ -1,14 +1,14 @@
--- `rows::log::differences` is safe and ends: the change counts up to the number asked for.
+-- `rows::log::differences` is safe and ends: the change counts up to the last one.
 use borrow.Author.Needs.{needs}
-use Prim.Native.Nat.{_≤_, _-_}
+use Prim.Native.Nat.{_-_}
 use Rattle.rows.proofs.log.differences.Statement.{statement}
 use Rattle.rows.proofs.log.differences.Tie as tie
 
 abbrev Inv-loop : tie.InvT-loop
-Inv-loop count noted₀ change₀ noted change = change ≤ count
+Inv-loop from to noted₀ change₀ t7 noted change = Unit {0}
 
 abbrev μ-loop : tie.MeasureT-loop
-μ-loop count noted₀ change₀ noted change = count - change
+μ-loop from to noted₀ change₀ t7 noted change = to - change
 
 pub differences-spec : {M : Type 1} → statement M
 differences-spec =
@@ -16,10 +16,14 @@ differences-spec =
     (tie.spec
     Inv-loop
     μ-loop
-    (λ c κs. search needs)
     (λ c. search needs)
     (λ c. search needs)
     (λ c κs. search needs)
+    (λ c κs. search needs)
     (λ c. search needs)
     (λ c. search needs)
+    (λ c. search needs)
+    (λ c κs. search needs)
+    (λ c κs. search needs)
+    (λ c κs. search needs)
     (λ c. search needs))
