@@ -44,7 +44,8 @@
  *   17   not a run (a setting ruled out is a fault, and so is      index of the first fault, 0 if empty
  *        a start that is not allowed; where several inputs may
  *        change, a setting twice is a fault, any other change none)
- *   18   log not sound, or its readings at 4294967295              0
+ *   18   log not sound (its struct below says when it is),         0
+ *        or its readings at 4294967295
  *   19   plan bytes that do not split into runs, or a run          byte where that run starts
  *        that 17 refuses
  *   20   asked couple visited by no run, several inputs            0
@@ -90,11 +91,22 @@ typedef struct { size_t number, place, character, outputs, evolutions; mundrefol
 /* An evolution of the file: source and target state, place in the file and length of its condition. */
 typedef struct { uint8_t source, target; uint16_t at; uint8_t length; } mundrefol_evolution;
 
-/* A difference kept in the log: run, change, and whether it was the second reading after the change. */
-typedef struct { uint16_t run, change; bool second; } mundrefol_entry;
+/*
+ * A difference kept in the log: run, change, whether it was the second reading after the change, and the
+ * expected and the seen word. A word holds output j, counted from 0, in its bit of weight 2^j.
+ */
+typedef struct { uint16_t run, change; bool second; uint16_t expected, seen; } mundrefol_entry;
 
-/* The bench log: readings, differing readings, entries kept, and the first 32 differences. A fresh log is all zero. */
-typedef struct { uint32_t readings, differing, kept; mundrefol_entry entries[32]; } mundrefol_log;
+/*
+ * The bench log: readings, differing readings, entries kept, the first 32 differences, and for each of
+ * the 16 outputs the number of readings in which it differed, kept or not, whatever outputs the file has.
+ * A fresh log is all zero.
+ * A log is sound if kept is the smaller of 32 and differing, differing is at most readings, the two words of
+ * each kept entry differ, no output's count is above differing, the sum of the 16 counts is not below it,
+ * and, with fewer than 33 differences, each count is the number of kept entries that differ in its output.
+ * The kept entries are the first ones; those beyond them are not looked at.
+ */
+typedef struct { uint32_t readings, differing, kept; mundrefol_entry entries[32]; uint32_t outputs[16]; } mundrefol_log;
 
 /* The answer of an update: number and place, and the kind: 0 equal, 1 stored, 2 full, 3 refused. */
 typedef struct { size_t number, place, kind; } mundrefol_noted;
@@ -198,8 +210,9 @@ mundrefol_answer mundrefol_multi_expected(mundrefol_frame frame, const uint8_t *
 
 /*
  * Notes one reading in the log: compares the expected with the seen word. Equal counts a reading;
- * stored counts a differing one too and keeps the entry as given; full counts it without keeping it.
- * Entries beyond the kept ones are not looked at. Refused by 18; the log is then unchanged, the kind 3.
+ * stored counts a differing one too, each output in which its words differ, and keeps the reading as given;
+ * full counts the same and keeps no entry. Nothing else of the log changes.
+ * Refused by 18; the log is then unchanged, the kind 3.
  */
 mundrefol_noted mundrefol_update(mundrefol_log *log, uint16_t run, uint16_t change, bool second, uint16_t expected, uint16_t seen);
 

@@ -9,7 +9,7 @@ pub mod file;
 pub mod generate;
 pub mod plain;
 
-use plain::{Set, ENTRIES};
+use plain::{Set, ENTRIES, OUTPUTS};
 
 /// The answer of a table job: number 0 is success, any other a refusal.
 #[repr(C)]
@@ -53,16 +53,20 @@ pub struct Evolution {
     pub length: u8,
 }
 
-/// A difference kept in the log: run, change, and whether it was the second reading after the change.
+/// A reading, which the log keeps if it differs: run, change, whether it was the second after the
+/// change, and the expected and the seen word.
 #[repr(C)]
 #[derive(Clone, Copy, Debug, Default, PartialEq, Eq)]
 pub struct Entry {
     pub run: u16,
     pub change: u16,
     pub second: bool,
+    pub expected: u16,
+    pub seen: u16,
 }
 
-/// The bench log: readings, differing readings, entries kept, and the first differences.
+/// The bench log: readings, differing readings, entries kept, the first differences, and the readings in
+/// which each output differed.
 #[repr(C)]
 #[derive(Clone, Copy, Debug, Default, PartialEq, Eq)]
 pub struct Log {
@@ -70,6 +74,7 @@ pub struct Log {
     pub differing: u32,
     pub kept: u32,
     pub entries: [Entry; ENTRIES],
+    pub outputs: [u32; OUTPUTS],
 }
 
 /// The answer of an update: kind 0 equal, 1 stored, 2 full, 3 refused.
@@ -87,8 +92,8 @@ const _: () = {
     assert!(size_of::<Frame>() == 3 * size_of::<usize>() + 64);
     assert!(size_of::<Contents>() == 5 * size_of::<usize>() + size_of::<Frame>());
     assert!(size_of::<Evolution>() == 6);
-    assert!(size_of::<Entry>() == 6);
-    assert!(size_of::<Log>() == 204);
+    assert!(size_of::<Entry>() == 10);
+    assert!(size_of::<Log>() == 396);
     assert!(size_of::<Noted>() == 3 * size_of::<usize>());
 };
 
@@ -274,14 +279,8 @@ pub fn multi_expected(
 }
 
 /// Notes one reading in the log.
-pub fn update(
-    log: &mut Log,
-    run: u16,
-    change: u16,
-    second: bool,
-    expected: u16,
-    seen: u16,
-) -> Noted {
+pub fn update(log: &mut Log, reading: Entry) -> Noted {
+    let Entry { run, change, second, expected, seen } = reading;
     // SAFETY: the log is one whole record, lent for the call.
     unsafe { entry::mundrefol_update(log, run, change, second, expected, seen) }
 }

@@ -12,7 +12,6 @@ run 0 1 0
 readings 0 1 1 0 0
 never 1 0 0
 starts 3 0 0 1 0
-log 34 33 32
 ";
 
 /// What `hands.c` prints: each run of the list as it is stored.
@@ -25,6 +24,11 @@ multi 2 0 4 0 0 3 0 1
 multi 2 0 4 0 0 3 0 2
 multi 3 0 4 0 0 3 0 3
 readings 0 1 1 3 3
+";
+
+/// What `log.c` prints.
+const LOG: &str = "log 34 33 32
+outputs 33 0 0 33 0 0 0 0 0 0 0 0 0 0 0 33
 ";
 
 fn assert_success(what: &str, output: &Output) {
@@ -72,4 +76,14 @@ fn hands_in_c() {
 #[test]
 fn hands_in_cpp() {
     prints("hands", "c++", HANDS);
+}
+
+#[test]
+fn log_in_c() {
+    prints("log", "c", LOG);
+}
+
+#[test]
+fn log_in_cpp() {
+    prints("log", "c++", LOG);
 }

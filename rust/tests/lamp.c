@@ -1,6 +1,6 @@
 /*
  * The lamp through the entry points, as C and as C++: layouts, reading, evolutions, marks, plan, run,
- * the plan shortened, readings, log; and the lamp with a setting that is never used, with other allowed
+ * the plan shortened, readings; and the lamp with a setting that is never used, with other allowed
  * starts, and with conditions that do not read.
  */
 
@@ -27,15 +27,6 @@ static_assert(sizeof(mundrefol_evolution) == 6, "evolution");
 static_assert(offsetof(mundrefol_evolution, target) == 1, "evolution.target");
 static_assert(offsetof(mundrefol_evolution, at) == 2, "evolution.at");
 static_assert(offsetof(mundrefol_evolution, length) == 4, "evolution.length");
-static_assert(sizeof(mundrefol_entry) == 6, "entry");
-static_assert(offsetof(mundrefol_entry, change) == 2, "entry.change");
-static_assert(offsetof(mundrefol_entry, second) == 4, "entry.second");
-static_assert(sizeof(mundrefol_log) == 204, "log");
-static_assert(offsetof(mundrefol_log, differing) == 4, "log.differing");
-static_assert(offsetof(mundrefol_log, kept) == 8, "log.kept");
-static_assert(offsetof(mundrefol_log, entries) == 12, "log.entries");
-static_assert(sizeof(mundrefol_noted) == 3 * WORD, "noted");
-static_assert(offsetof(mundrefol_noted, kind) == 2 * WORD, "noted.kind");
 
 static const uint8_t lamp[47] = {
     'S', 'E', 'Q', '1', 4,
@@ -238,24 +229,6 @@ static void check_starts(mundrefol_frame frame, const uint8_t *table, const uint
     show("starts", plan, 5);
 }
 
-static void check_log(void)
-{
-    mundrefol_log log;
-    memset(&log, 0, sizeof log);
-    mundrefol_noted noted = mundrefol_update(&log, 3, 0, false, 0, 0);
-    CHECK(noted.number == 0 && noted.place == 0 && noted.kind == 0);
-    for (uint16_t change = 1; change <= 33; change++) {
-        noted = mundrefol_update(&log, 3, change, true, 1, 0);
-        CHECK(noted.number == 0 && noted.kind == (change <= 32 ? 1u : 2u));
-    }
-    CHECK(log.readings == 34 && log.differing == 33 && log.kept == 32);
-    CHECK(log.entries[31].run == 3 && log.entries[31].change == 32 && log.entries[31].second);
-    printf("log %u %u %u\n", (unsigned)log.readings, (unsigned)log.differing, (unsigned)log.kept);
-    log.kept = 31;
-    noted = mundrefol_update(&log, 3, 0, false, 0, 0);
-    CHECK(noted.number == 18 && noted.place == 0 && noted.kind == 3 && log.readings == 34);
-}
-
 int main(void)
 {
     uint8_t table[5] = {99, 99, 99, 99, 99};
@@ -272,6 +245,5 @@ int main(void)
     check_readings(frame, table, words);
     check_never(table, words, records);
     check_starts(frame, table, words);
-    check_log();
     return 0;
 }

@@ -2,8 +2,8 @@
 
 use mundrefol::generate::{largest_file, list_of, longest_table, plan_of, widest_table, Table};
 use mundrefol::plain::{self, lines, queue, Jobs, RunTo, Write};
-use mundrefol::plain::{COUPLES, EVOLUTIONS, FILE, INPUTS, STATES, UNMARKED};
-use mundrefol::{examples, Contents, Evolution, Frame};
+use mundrefol::plain::{COUPLES, ENTRIES, EVOLUTIONS, FILE, INPUTS, STATES, UNMARKED};
+use mundrefol::{examples, Contents, Entry, Evolution, Frame, Log, Noted};
 use std::fs::{self, File};
 use std::hint::black_box;
 use std::io::{self, Read, Write as _};
@@ -43,6 +43,7 @@ fn main() {
         head(name, "", &table);
         bench_table(&table);
     }
+    bench_log();
 }
 
 /// The least time of one call of `job`, over as many calls as fit.
@@ -270,4 +271,22 @@ fn bench_readings(table: &Table, run: &[u8]) {
         black_box(plain::expected(frame, moves, &words, run, &mut theirs));
     };
     row("readings", &mut library, &mut independent);
+}
+
+/// A reading that differs in every output, in a fresh log and in one that has kept all it can.
+fn bench_log() {
+    println!("\nlog: a differing reading noted; the log is copied before each call, by both");
+    columns("kept");
+    let reading = Entry { run: 1, change: 1, second: true, expected: 0, seen: u16::MAX };
+    let mut full = Log::default();
+    for _ in 0..ENTRIES {
+        plain::update(&mut full, reading);
+    }
+    for log in [Log::default(), full] {
+        let note = |update: fn(&mut Log, Entry) -> Noted| {
+            let mut log = log;
+            black_box(update(black_box(&mut log), black_box(reading)));
+        };
+        row(&log.kept.to_string(), &mut || note(mundrefol::update), &mut || note(plain::update));
+    }
 }

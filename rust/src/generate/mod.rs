@@ -1,10 +1,12 @@
-//! Seeded inputs for the tests and the benchmarks: tables, conditions, files, plans and lists.
+//! Seeded inputs for the tests and the benchmarks: tables, conditions, files, plans,
+//! lists and logs.
 
 mod apart;
 mod contents;
 mod damage;
 mod files;
 mod lists;
+mod logs;
 mod plans;
 mod sets;
 mod tables;
@@ -15,6 +17,7 @@ pub use apart::{any_apart, widest_table};
 pub use damage::damaged;
 pub use files::{file_of_regions, largest_file, random_bytes, random_file, settled_file};
 pub use lists::{list_of, multi_runs_of, multiple_changes};
+pub use logs::{any_log, any_reading};
 pub use plans::{any_plan, any_runs, multi_walk, plan_of, runs_of, spoil_run, stored, walk, Walk};
 pub use tables::{any_table, longest_table, sizes, Regions, Table};
 pub use texts::{all_texts, dressed, nested, padded, random_condition, sum_of_products, Product};

@@ -23,7 +23,7 @@ mod specification;
 
 pub use condition::holds;
 pub use evolution::evolution_holds;
-pub use log::update;
+pub use log::{outputs_of, update};
 pub use marking::mark;
 pub use multi::{multi_list, multi_run_to};
 pub use plan::{plan, run_to, RunTo};

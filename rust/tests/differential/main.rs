@@ -11,6 +11,7 @@ mod multi;
 mod optional;
 mod read;
 mod shorten;
+mod sound;
 mod tables;
 mod unread;
 
