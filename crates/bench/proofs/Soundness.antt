@@ -14,7 +14,7 @@ use borrow.Author.Tests.{ltb-true, ltb-false, eqb-false, not-false}
 use Rattle.basics.specs.Words.{mostOutputs}
 use Rattle.verdict.specs.Checks.{Decides}
 use Rattle.verdict.specs.Below.{every, sumTo}
-use Rattle.verdict.proofs.Tests.{decides-map, decides-equal, decides-leb, decides-true, decides-if, decides-is, decides-unique, _also_}
+use Rattle.verdict.proofs.Tests.{decides-map, decides-equal, decides-at-most, decides-true, decides-if, decides-is, decides-unique, _also_}
 use Rattle.verdict.proofs.Below.{decides-every, sum-plus, list-at}
 use Rattle.bench.specs.declared.Reading.{Reading}
 use Rattle.bench.specs.declared.Log.{Log}
@@ -43,14 +43,11 @@ pub record Sound (l : Log) : Type 0 where
   pub exact : l .differing ≤ mostEntries → Exact l
 
 module _ (l : Log) where
-  at-most : (a b : ℕ) → Decides (a ≤ b) (leb a b)
-  at-most a b = decides-leb a b (λ h. h) (λ h. h)
-
   pub decides-unequal : Decides (Unequal l) (every (l .kept) (λ i. differs (entryAt l i)))
   decides-unequal = decides-every (l .kept) _ (λ i. differs (entryAt l i) ≡ true) (λ i. decides-true (differs (entryAt l i)))
 
   pub decides-most : Decides (Most l) (every mostOutputs (λ j. leb (countAt l j) (l .differing)))
-  decides-most = decides-every mostOutputs _ (λ j. countAt l j ≤ l .differing) (λ j. at-most (countAt l j) (l .differing))
+  decides-most = decides-every mostOutputs _ (λ j. countAt l j ≤ l .differing) (λ j. decides-at-most (countAt l j) (l .differing))
 
   -- whichever list has the counts of the entries
   pub decides-exact : (f : ℕ → ℕ) → ((j : ℕ) → j < mostOutputs → f j ≡ times (keptOf l) j) → Decides (Exact l) (every mostOutputs (λ j. eqb (countAt l j) (f j)))
@@ -62,11 +59,11 @@ module _ (l : Log) where
       (λ s. (((((s .smaller, s .within), s .unequal), s .most), s .least), s .exact))
       (
       decides-equal (l .kept) (min mostEntries (l .differing))
-      also at-most (l .differing) (l .readings)
+      also decides-at-most (l .differing) (l .readings)
       also decides-unequal
       also decides-most
-      also at-most (l .differing) (sumTo (countAt l) mostOutputs)
-      also decides-if (at-most (l .differing) mostEntries) (decides-exact (times (keptOf l)) (λ j h. refl))
+      also decides-at-most (l .differing) (sumTo (countAt l) mostOutputs)
+      also decides-if (decides-at-most (l .differing) mostEntries) (decides-exact (times (keptOf l)) (λ j h. refl))
       )
 
   pub says-sound : {b : Bool} → Decides (Sound l) b → b ≡ sound l

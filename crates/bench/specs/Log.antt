@@ -66,6 +66,7 @@ noted l r = record {
   outputs = listTo (λ j. countAt l j + oneIf (differsIn j r)) mostOutputs;
 }
 
+-- a log is sound if all of these hold
 abbrev pub sound : Log → Bool
 sound l =
     -- kept entries = the smaller of 32 and differing

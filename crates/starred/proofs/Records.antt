@@ -10,7 +10,7 @@ use lib.Dec.{eqb, leb, ltb}
 use Rattle.verdict.specs.Checks.{Decides, None}
 use Rattle.machine.specs.Limits.{mostInputs, mostStates}
 use Rattle.machine.specs.Moves.{SameWord}
-use Rattle.verdict.proofs.Tests.{decides-leb, decides-equal, decides-below, decides-not, decides-either, _also_}
+use Rattle.verdict.proofs.Tests.{decides-at-most, decides-equal, decides-below, decides-not, decides-either, _also_}
 use Rattle.verdict.specs.Below.{every}
 use Rattle.verdict.proofs.Below.{decides-every}
 use Rattle.basics.specs.Words.{mostOutputs}
@@ -19,9 +19,6 @@ use Rattle.specification.specs.File.{mark, countOf, entryAt, kinds, startsKind,
 use Rattle.verdict.specs.Below.{sumTo}
 use Rattle.specification.specs.Records.{sizesOf, records, word, source, target, textLength, Sized, Evolves, Beyond, Own, Twice}
 use Rattle.specification.specs.Records.Beyond.{output-beyond, source-beyond, target-beyond}
-
-decides-most : (c d : ℕ) → Decides (c ≤ d) (leb c d)
-decides-most c d = decides-leb c d (λ h. h) (λ h. h)
 
 module _ (file : List ℕ) where
   -- refusal 1, but for the mark
@@ -40,10 +37,10 @@ module _ (file : List ℕ) where
 
   pub well-formed : take 4 file ≡ mark → formed ≡ true → WellFormed file
   well-formed marked e =
-      let x = (decides-most _ _ also decides-most _ _ also decides-most _ _
+      let x = (decides-at-most _ _ also decides-at-most _ _ also decides-at-most _ _
       also decides-every kinds _ (λ k. kindOf file k ≡ k + 1) (λ k. decides-equal _ _)
       also decides-every (countOf file - 1) _ (λ k. kindOf file k < kindOf file (suc k)) (λ k. decides-below _ _)
-      also decides-every (countOf file) _ (λ k. (kindOf file k ≤ startsKind) × (offsetOf file k ≡ startOf file k)) (λ k. decides-most _ _ also decides-equal _ _)
+      also decides-every (countOf file) _ (λ k. (kindOf file k ≤ startsKind) × (offsetOf file k ≡ startOf file k)) (λ k. decides-at-most _ _ also decides-equal _ _)
       also decides-equal _ _ also decides-equal _ _ also decides-equal _ _ also decides-equal _ _) .holds e in
       let y = x .0 .0 .0 .0 in
       record {
@@ -76,9 +73,9 @@ module _ (file : List ℕ) where
 
   pub sized : ranged ≡ true → Sized file
   sized e =
-      let x = (decides-most _ _ also decides-most _ _ also decides-most _ _ also decides-most _ _ also decides-most _ _ also decides-most _ _
-      also decides-below _ _ also decides-most _ _ also decides-equal _ _ also decides-equal _ _
-      also decides-every (countOf file) _ (λ k. (k < kinds) ⊎ (lengthOf file k ≤ mostText)) (λ k. decides-either (decides-below _ _) (decides-most _ _))) .holds e in
+      let x = (decides-at-most _ _ also decides-at-most _ _ also decides-at-most _ _ also decides-at-most _ _ also decides-at-most _ _ also decides-at-most _ _
+      also decides-below _ _ also decides-at-most _ _ also decides-equal _ _ also decides-equal _ _
+      also decides-every (countOf file) _ (λ k. (k < kinds) ⊎ (lengthOf file k ≤ mostText)) (λ k. decides-either (decides-below _ _) (decides-at-most _ _))) .holds e in
       let r = x .0 .0 .0 in
       record {
         ranges = record {

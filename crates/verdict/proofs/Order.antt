@@ -8,7 +8,7 @@ use lib.Dec.{leb}
 use native.Mathlib.Omega.{arith}
 use Rattle.verdict.specs.Checks.{Least, None, Check, check, Then, refused, next, Verdict, Passed, Unless, Short, Within, Judged}
 use Rattle.verdict.specs.declared.Answer.{Answer}
-use Rattle.verdict.proofs.Tests.{least-unique, decides-leb, decides-true, _also_}
+use Rattle.verdict.proofs.Tests.{least-unique, decides-at-most, decides-true, _also_}
 
 pub same-answer : (a b : Answer) → a .number ≡ b .number → a .place ≡ b .place → a ≡ b
 same-answer a b n p = ap₂ (λ (m q : ℕ). record { number = m; place = q }) n p
@@ -26,7 +26,7 @@ Numbered low high cs = numbers low high cs ≡ true
 
 within : (low high : ℕ) (c : Check) (cs : List Check) → Numbered low high (c ∷ cs) → (low ≤ c .number) × ((c .number ≤ high) × Numbered low high cs)
 within low high c cs e =
-    (decides-leb low (c .number) (λ h. h) (λ h. h) also (decides-leb (c .number) high (λ h. h) (λ h. h) also decides-true (numbers low high cs))) .holds e
+    (decides-at-most low (c .number) also (decides-at-most (c .number) high also decides-true (numbers low high cs))) .holds e
 
 -- no check fails
 

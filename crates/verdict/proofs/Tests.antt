@@ -40,6 +40,9 @@ decides-equal a b = decides-eqb a b (λ e. e) (λ e. e)
 pub decides-below : (a b : ℕ) → Decides (a < b) (ltb a b)
 decides-below a b = decides-lt a b (λ e. e) (λ e. e)
 
+pub decides-at-most : (a b : ℕ) → Decides (a ≤ b) (leb a b)
+decides-at-most a b = decides-leb a b (λ h. h) (λ h. h)
+
 pub decides-true : (b : Bool) → Decides (b ≡ true) b
 decides-true b = record { holds = λ e. e; fails = λ e h. true≢false (sym h ∙ e) }
 
