@@ -193,7 +193,7 @@ fn lamp(what: &[u8], entries: usize, changes: &[u8]) {
 }
 
 // Into so many bytes for the table, at most 5, and so many words, at most 3.
-fn lamp_into(what: &[u8], file: &mut [u8], changes: &[u8], bytes: usize, count: usize) {
+pub(crate) fn lamp_into(what: &[u8], file: &mut [u8], changes: &[u8], bytes: usize, count: usize) {
     change(file, changes);
     let mut table = [7u8; 5];
     let mut words = [7u16; 3];
@@ -206,7 +206,7 @@ fn lamp_into(what: &[u8], file: &mut [u8], changes: &[u8], bytes: usize, count: 
     lent(what, file, &mut table[0..bytes], &mut words[0..count]);
 }
 
-fn lent(what: &[u8], file: &[u8], table: &mut [u8], words: &mut [u16]) {
+pub(crate) fn lent(what: &[u8], file: &[u8], table: &mut [u8], words: &mut [u16]) {
     let contents = specification::read_here(file, table, words);
     told(what, contents);
     bytes(table);

@@ -14,6 +14,7 @@ mod optional;
 mod plans;
 mod ranks;
 mod records;
+mod rests;
 mod samples;
 mod shorter;
 mod starts;
@@ -42,6 +43,7 @@ fn files() {
     conditions::characters();
     lamps::rows();
     optional::rows();
+    rests::rows();
     limits::fewest();
     limits::most();
     limits::kinds();

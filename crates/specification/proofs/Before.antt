@@ -2,37 +2,42 @@
 -- fails where it failed before, nothing is ruled out, and setting 0 is the only start. With a kind 6 of the text `1` its starts are
 -- document 01's, since that condition holds at every setting.
 use mathlib.Core.Path.{_≡_, refl, sym, ap, subst, fun-ext, _∙_}
-use mathlib.Core.Bool.{Bool}
+use mathlib.Core.Bool.{Bool, true}
 use mathlib.Core.Logic.{_↔_, ⊎-elim}
 use mathlib.Core.List.{List}
 use Prim.Native.Nat.{ℕ, suc, _<_}
 use native.Mathlib.Omega.{arith}
 use lib.ListN.{length}
 use lib.Dec.{eqb}
-use Rattle.condition.specs.Condition.{Reads}
+use Rattle.condition.specs.Condition.{Reads, Holds}
 use Rattle.verdict.specs.Checks.{None, Unless, Passed, Judged}
 use Rattle.verdict.specs.declared.Answer.{Answer}
 use Rattle.verdict.proofs.Order.{judged-row, judged-same, unless, judged-passes, judged-unique}
-use Rattle.verdict.proofs.Tests.{decides-or, decides-equal}
+use Rattle.verdict.proofs.Tests.{decides-or, decides-true, decides-equal, _also_}
 use Rattle.machine.specs.Moves.{Start}
 use Rattle.machine.specs.Runs.{usable, machineOf, bareMachine, startingAt}
 use Rattle.machine.specs.Plans.{SameRuns}
 use Rattle.machine.proofs.Bare.{none-ruled, machine-bare, starts-anywhere}
-use Rattle.specification.specs.File.{countOf, kinds, neverKind, Has, WellFormed}
+use Rattle.specification.specs.File.{mark, restsOf, countOf, kinds, neverKind, Has, WellFormed}
 use Rattle.specification.specs.Records.{sizesOf, settings, records, Sized}
-use Rattle.specification.specs.Rules.{Unreads, Moves, Never, power-up, MayStart}
+use Rattle.specification.specs.Rules.{textOf, HoldsAt, by-text, Unreads, Moves, Never, power-up, MayStart}
 use Rattle.specification.specs.Reading.{fileChecks, ReadHere}
 use Rattle.specification.specs.Before.{FourKinds, FourSized, RecordUnreads, checksBefore, AnyStart}
 use Rattle.specification.specs.declared.Contents.{Contents}
 use Rattle.specification.specs.declared.records.Sizes.{Sizes}
 use Rattle.specification.proofs.Conditions.{condition-record}
+use Rattle.specification.proofs.Forms.{own-form, own-mark, all-worded, of-text}
 use Rattle.specification.proofs.Meanings.{never-none, starts-zero, starts-all}
 use Rattle.specification.proofs.Optional.{none-never, zero-allowed, any-allowed}
 
-module _ {file : List ℕ} (four : countOf file ≡ kinds) where
+-- in a file with rest conditions each record has a condition, and holds exactly where that does
+pub holds-by-text : (file : List ℕ) (v r : ℕ) → restsOf file ≡ true → HoldsAt file (sizesOf file) v r ↔ Holds (sizesOf file .inputs) v (textOf file (sizesOf file) r)
+holds-by-text file v r rests = (of-text (omega (arith, all-worded file rests)), by-text (omega (arith, all-worded file rests)))
+
+module _ (file : List ℕ) (rests : restsOf file ≡ true) (four : countOf file ≡ kinds) where
   formed : FourKinds file → WellFormed file
   formed x = record {
-    headed = record { few = x .few; marked = x .marked; count = omega (arith, four); enough = rw four (x .enough) };
+    headed = record { few = x .few; marked = own-mark file true (x .marked); count = omega (arith, four); enough = rw four (x .enough) };
     entries = record {
       always = x .kind;
       rising = λ k l. omega (arith, x .kind k (omega (arith, four)), x .kind (suc k) (omega (arith, four)));
@@ -47,7 +52,7 @@ module _ {file : List ℕ} (four : countOf file ≡ kinds) where
   four-kinds x = record {
     few = x .headed .few;
     enough = rw four at (x .headed .enough);
-    marked = x .headed .marked;
+    marked = x .headed .marked ∙ ap mark rests;
     count = four;
     kind = x .entries .always;
     offset = λ k l. x .entries .offset k (omega (arith, four));
@@ -56,7 +61,7 @@ module _ {file : List ℕ} (four : countOf file ≡ kinds) where
   }
 
   sized : FourSized file → Sized file
-  sized x = record { ranges = x .ranges; states = x .states; texts = x .texts; bodies = λ k h l. absurd (omega (arith, four)) }
+  sized x = record { ranges = x .ranges; states = x .states; empty = λ s l. absurd (omega (arith, all-worded file rests)); texts = x .texts; bodies = λ k h l. absurd (omega (arith, four)) }
 
   four-sized : Sized file → FourSized file
   four-sized x = record { ranges = x .ranges; states = x .states; texts = x .texts }
@@ -75,7 +80,7 @@ module _ {file : List ℕ} (four : countOf file ≡ kinds) where
 
   -- refusal 5, of the records alone
   unreads : (r : ℕ) → RecordUnreads file (sizesOf file) r → Unreads file (sizesOf file) r
-  unreads r x = record { below = omega (arith, x .below); unread = λ y. x .unread (subst (Reads (sizesOf file .inputs)) (condition-record file (sizesOf file) r (x .below)) y) }
+  unreads r x = record { below = omega (arith, x .below); worded = omega (arith, all-worded file rests); unread = λ y. x .unread (subst (Reads (sizesOf file .inputs)) (condition-record file (sizesOf file) r (x .below)) y) }
 
   record-unreads : (r : ℕ) → Unreads file (sizesOf file) r → RecordUnreads file (sizesOf file) r
   record-unreads r x =
@@ -97,18 +102,19 @@ pub as-before : {file table₀ words₀ table₁ words₁ : List ℕ} {room : �
     → (r .answer ≡ a) × ((T : List ℕ) → machineOf (r .frame) T ≡ startingAt (λ v. eqb v 0) (bareMachine (sizesOf file .inputs) (sizesOf file .states) (sizesOf file .initial) T))
 as-before {file} {a = a} {r} v e u =
     ⊎-elim
-    (λ four.
-    let is : r .answer ≡ a = judged-unique (u .verdict) (judged-before four v) in
+    (λ (x : (restsOf file ≡ true) × (countOf file ≡ kinds)).
+    let (rests, four) = x in
+    let is : r .answer ≡ a = judged-unique (u .verdict) (judged-before file rests four v) in
     let d : r .answer .number ≡ 0 = ap (λ (b : Answer). b .number) is ∙ e in
     let f = u .done d .frame in
     let w = judged-passes 13 (u .verdict) refl d .0 in (
       is,
       λ T. rw (← f .inputs, ← f .states, ← f .initial)
-          (machine-bare (r .frame) T (none-ruled (r .frame) (never-none u d (no-other four w (omega arith))))
-          ∙ ap (λ (s : ℕ → Bool). startingAt s (bareMachine (r .frame .inputs) (r .frame .states) (r .frame .initial) T)) (fun-ext (starts-zero u d (no-other four w (omega arith))))),
+          (machine-bare (r .frame) T (none-ruled (r .frame) (never-none u d (no-other file rests four w (omega arith))))
+          ∙ ap (λ (s : ℕ → Bool). startingAt s (bareMachine (r .frame .inputs) (r .frame .states) (r .frame .initial) T)) (fun-ext (starts-zero u d (no-other file rests four w (omega arith))))),
     ))
-    (λ (other : countOf file ≡ kinds → ⊥). absurd (judged-passes 13 v refl e .0 .nowhere 0 (refl, λ x. other (x .count))))
-    (decides-or (decides-equal (countOf file) kinds))
+    (λ (other : (restsOf file ≡ true) × (countOf file ≡ kinds) → ⊥). absurd (judged-passes 13 v refl e .0 .nowhere 0 (refl, λ x. other (own-form file true (x .marked), x .count))))
+    (decides-or (decides-true (restsOf file) also decides-equal (countOf file) kinds))
 
 -- With kind 6 `1` a run may start as document 01 lets it, at any setting that is not ruled out: by the file, and by the runs of the
 -- machine that the table jobs are handed, which without kind 5 are those of document 01's machine.

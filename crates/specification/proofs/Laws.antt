@@ -1,5 +1,6 @@
 -- Facts on prefixes and the layout of a file that several proofs cite: each by the law of one more step, and by arithmetic.
 use mathlib.Core.Path.{_≡_, refl, sym, ap, subst, _∙_}
+use mathlib.Core.Bool.{Bool, true, false, cond}
 use mathlib.Core.List.{List}
 use mathlib.Core.Logic.{_⊎_, inl, inr}
 use Prim.Native.Nat.{ℕ, zero, suc, _+_, _*_, _/_, _^_, _≤_, _<_}
@@ -7,7 +8,7 @@ use native.Mathlib.Omega.{arith}
 use native.Mathlib.Numerals.{add-one}
 use lib.ListN.{length, getD, take, length-take}
 use lib.Seq.{getD-take, ext-getD, length-take-le}
-use Rattle.specification.specs.File.{countOf, entryAt, startOf, lengthOf, kinds, WellFormed}
+use Rattle.specification.specs.File.{restsOf, countOf, entryAt, startOf, lengthOf, kinds, WellFormed}
 use Rattle.verdict.specs.Below.{sumTo}
 use Rattle.verdict.proofs.Below.{sum-le}
 use Rattle.specification.specs.Records.{sizesOf, Sized, records, word, source, target, Beyond, output-beyond, source-beyond, target-beyond}
@@ -47,6 +48,11 @@ start-sum file (suc k) = omega (arith, start-sum file k)
 pub start-le : (file : List ℕ) (k n : ℕ) → k ≤ n → startOf file k ≤ startOf file n
 start-le file k n h = omega (arith, start-sum file k, start-sum file n, sum-le (lengthOf file) k n h)
 
+-- each evolution has a condition
+pub worded-few : (rests : Bool) (states : ℕ) → cond rests 0 states ≤ states
+worded-few true states = omega arith
+worded-few false states = omega arith
+
 -- the records and the texts lie in the file
 pub laid-out : (file : List ℕ) → WellFormed file → (startOf file 1 ≡ startOf file 0 + 4) × (startOf file 1 + lengthOf file 1 + 3 * (lengthOf file 2 / 3) + lengthOf file 3 ≡ startOf file kinds) × (startOf file kinds ≤ length file)
 unfolding startOf
@@ -59,6 +65,7 @@ laid file w s =
       formed = w;
       ranges = s .ranges;
       counted = refl;
+      worded = worded-few (restsOf file) (sizesOf file .states);
       texts = omega (arith, e .1, e .2, s .states, s .texts);
       few = w .headed .few;
     }

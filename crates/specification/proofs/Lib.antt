@@ -4,6 +4,7 @@ pub mod Optional
 pub mod Conditions
 pub mod Framing
 pub mod Firing
+pub mod Forms
 pub mod Scan
 pub mod Settling
 pub mod Outcomes
@@ -14,3 +15,13 @@ pub mod Refusals
 pub mod Meanings
 pub mod Accepted
 pub mod Before
+pub mod Rewritten
+pub mod Pieces
+pub mod Places
+pub mod Shaped
+pub mod Octets
+pub mod Sums
+pub mod Carried
+pub mod Rests
+pub mod Alike
+pub mod Examples

@@ -40,7 +40,7 @@ module _ {file table words : List ℕ} {room : ℕ} {r : Contents} {t w : List �
       same-move file (sizesOf file) (no-two-rules (few e)) k (f .move _ _ k) (g .move _ _ k)
 
 -- what is answered on success is one
-contents-only : {file : List ℕ} {z : Sizes} (r q : Contents) → ContentsOf file z r → ContentsOf file z q → r .answer ≡ q .answer → r .character ≡ q .character → r ≡ q
+pub contents-only : {file : List ℕ} {z : Sizes} (r q : Contents) → ContentsOf file z r → ContentsOf file z q → r .answer ≡ q .answer → r .character ≡ q .character → r ≡ q
 contents-only r q x y e k =
     ap₂ (λ (a : Answer) (c : ℕ). record { answer = a; character = c; outputs = r .outputs; evolutions = r .evolutions; frame = r .frame }) e k
     ∙ ap₂ (λ (o n : ℕ). record { answer = q .answer; character = q .character; outputs = o; evolutions = n; frame = r .frame }) (x .outputs ∙ sym (y .outputs)) (x .evolutions ∙ sym (y .evolutions))

@@ -119,7 +119,7 @@ pub settled : {file : List ℕ} {z : Sizes} {a b u w : List ℕ} {x : Found} →
 settled {file} {z} l n e f g = record { laid = l; leads = leads-below file z n; single = found-none (f .0) e; noted = λ p h. f .1 .needed p h e; named = g .needed }
 
 -- states with other words of the same numbers
-same-words : {u w : ℕ → ℕ} {states : ℕ} → ((s : ℕ) → s < states → u s ≡ w s) → (s : ℕ) → SameWord u states s → SameWord w states s
+pub same-words : {u w : ℕ → ℕ} {states : ℕ} → ((s : ℕ) → s < states → u s ≡ w s) → (s : ℕ) → SameWord u states s → SameWord w states s
 same-words e s x =
     let h = x .state in
     record { state = h; earlier = x .earlier; before = x .before; same = sym (e (x .earlier) (omega (arith, x .before))) ∙ x .same ∙ e s h }

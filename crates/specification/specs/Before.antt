@@ -1,6 +1,8 @@
 -- Reading a file as document 01 has it. A file with its four kinds has the same answers but for setting 0 as the only start (theorem
--- `as-before`), and one with a kind 6 of the text `1` has its starts (theorem `runs-bare`). Assumes nothing: these are definitions.
+-- `as-before`), and one with a kind 6 of the text `1` has its starts (theorem `runs-bare`). It asks for SEQ1, in
+-- which a record holds exactly where its condition does (theorem `holds-by-text`). Assumes nothing: these are definitions.
 use mathlib.Core.Path.{_≡_}
+use mathlib.Core.Bool.{true}
 use mathlib.Core.List.{List, _∷_, []}
 use Prim.Native.Char.{code}
 use Prim.Native.Nat.{ℕ, _+_, _*_, _≤_, _<_}
@@ -19,7 +21,7 @@ use Rattle.specification.specs.declared.records.Sizes.{Sizes}
 pub record FourKinds (file : List ℕ) : Type 0 where
   pub few : length file ≤ mostBytes
   pub enough : entryAt kinds ≤ length file
-  pub marked : take 4 file ≡ mark
+  pub marked : take 4 file ≡ mark true
   pub count : countOf file ≡ kinds
   pub kind : (k : ℕ) → k < kinds → kindOf file k ≡ k + 1
   pub offset : (k : ℕ) → k < kinds → offsetOf file k ≡ startOf file k

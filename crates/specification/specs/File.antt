@@ -1,18 +1,24 @@
 -- The contents of a file (document 01, "Specification file"): refusal 1. Assumes nothing: these are definitions.
 use mathlib.Core.Path.{_≡_}
+use mathlib.Core.Bool.{Bool, cond}
 use mathlib.Core.List.{List, [], _∷_}
 use Prim.Native.Char.{code}
 use Prim.Native.Nat.{ℕ, zero, suc, _+_, _*_, _%_, _≤_, _<_}
 use lib.ListN.{length, getD, take, drop}
+use lib.Dec.{eqb}
 use Rattle.specification.specs.Limits.{mostBytes}
 
 -- a number of two bytes, low byte first
 abbrev pub twoAt : List ℕ → ℕ → ℕ
 twoAt file at = getD file at 0 + 256 * getD file (at + 1) 0
 
--- the four letters SEQ1
-abbrev pub mark : List ℕ
-mark = code "S" ∷ code "E" ∷ code "Q" ∷ code "1" ∷ []
+-- the four letters SEQ1, of a file with rest conditions, or SEQ2, of one without
+abbrev pub mark : Bool → List ℕ
+mark rests = code "S" ∷ code "E" ∷ code "Q" ∷ cond rests (code "1") (code "2") ∷ []
+
+-- the fourth of them tells which
+abbrev pub restsOf : List ℕ → Bool
+restsOf file = eqb (getD file 3 0) (code "1")
 
 -- then a byte, the number of entries
 abbrev pub countOf : List ℕ → ℕ
@@ -63,7 +69,7 @@ Has file kind = (k : ℕ) × EntryOf file kind k
 -- neither too long nor too short; mark and count
 pub record Headed (file : List ℕ) : Type 0 where
   pub few : length file ≤ mostBytes
-  pub marked : take 4 file ≡ mark
+  pub marked : take 4 file ≡ mark (restsOf file)
   pub count : kinds ≤ countOf file
   pub enough : entryAt (countOf file) ≤ length file
 

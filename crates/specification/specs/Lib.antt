@@ -5,4 +5,5 @@ pub mod Rules
 pub mod Evolutions
 pub mod Reading
 pub mod Before
+pub mod Rests
 pub mod inner

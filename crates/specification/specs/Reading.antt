@@ -1,4 +1,4 @@
--- Reading a file: its checks in their order, and what it leaves (document 01, "Refusals by number"; document 02, ticket 4). Assumes
+-- Reading a file: its checks in their order, and what it leaves (document 01, "Refusals by number"; document 02, tickets 4 and 8). Assumes
 -- nothing: these are definitions.
 use mathlib.Core.Path.{_≡_}
 use mathlib.Core.List.{List, [], _∷_, _++_}
@@ -26,7 +26,7 @@ shapeChecks file tableRoom wordRoom recordRoom =
     -- file too long or too short, mark, count, kinds, offsets or end wrong; kind 1 not 4 bytes; kind 2 or 3 not a multiple of 3
     check 1 (Unless (WellFormed file))
     -- a size outside its range; initial not below S; kind 2 not 3 × S bytes; over 992 evolutions; condition lengths not summing to kind 4;
-    -- kind 5 or 6 over 255 bytes
+    -- kind 5 or 6 over 255 bytes; a non-zero state length in a file without rest conditions
     ∷ check 2 (Unless (Sized file))
     -- a table, word or record buffer too short, the first short one in that order
     ∷ check 3 (Short (couples z) tableRoom)
@@ -39,7 +39,7 @@ abbrev pub recordChecks : List ℕ → Sizes → List Check
 recordChecks file z =
     -- output bit beyond the outputs; state not below S in a record
     check 4 (Beyond file z)
-    -- condition does not read, those of kinds 5 and 6 after those of the records
+    -- condition does not read, those of kinds 5 and 6 after those of the records; rest conditions only where there are any
     ∷ check 5 (Unreads file z)
     -- evolution to its own source
     ∷ check 6 (Own file z)

@@ -1,5 +1,6 @@
--- Sizes and records (document 01, "Specification file"): refusals 2, 4, 6 and 7. Assumes nothing: these are definitions.
+-- Sizes and records (document 01, "Specification file"; document 02, ticket 8): refusals 2, 4, 6 and 7. Assumes nothing: these are definitions.
 use mathlib.Core.Path.{_≡_}
+use mathlib.Core.Bool.{cond}
 use mathlib.Core.List.{List}
 use Prim.Native.Nat.{ℕ, _+_, _*_, _-_, _/_, _^_, _≤_, _<_}
 use lib.ListN.{getD}
@@ -7,10 +8,11 @@ use Rattle.machine.specs.Limits.{mostInputs, mostStates}
 use Rattle.basics.specs.Words.{mostOutputs}
 use Rattle.verdict.specs.Below.{sumTo}
 use Rattle.specification.specs.Limits.{mostEvolutions, mostText}
-use Rattle.specification.specs.File.{twoAt, countOf, lengthOf, startOf, kinds}
+use Rattle.specification.specs.File.{twoAt, restsOf, countOf, lengthOf, startOf, kinds}
 use Rattle.specification.specs.declared.records.Sizes.{Sizes}
 
--- kind 1: inputs, outputs, states, initial state; kind 3: three bytes an evolution; the records begin with kind 2; bodies beyond kind 4
+-- kind 1: inputs, outputs, states, initial state; kind 3: three bytes an evolution; the records begin with kind 2; bodies beyond kind 4;
+-- the first record that has a condition: the first state's, or in a file without rest conditions the first evolution's
 abbrev pub sizesOf : List ℕ → Sizes
 sizesOf file =
     record {
@@ -21,6 +23,7 @@ sizesOf file =
       evolutions = lengthOf file 2 / 3;
       first = startOf file 1;
       more = countOf file - kinds;
+      worded = cond (restsOf file) 0 (getD file (startOf file 0 + 2) 0);
     }
 
 -- settings, couples
@@ -65,10 +68,12 @@ pub record Ranges (z : Sizes) : Type 0 where
   pub begins : z .initial < z .states
   pub few-evolutions : z .evolutions ≤ mostEvolutions
 
--- refusal 2 does not apply: the sizes, kind 2 has 3 × S bytes, the condition lengths sum to kind 4, a body beyond has at most 255 bytes
+-- refusal 2 does not apply: the sizes, kind 2 has 3 × S bytes, a state without a rest condition has the length zero, the condition
+-- lengths sum to kind 4, a body beyond has at most 255 bytes
 pub record Sized (file : List ℕ) : Type 0 where
   pub ranges : Ranges (sizesOf file)
   pub states : lengthOf file 1 ≡ 3 * sizesOf file .states
+  pub empty : (s : ℕ) → s < sizesOf file .worded → textLength file (sizesOf file) s ≡ 0
   pub texts : sumTo (textLength file (sizesOf file)) (records (sizesOf file)) ≡ lengthOf file 3
   pub bodies : (k : ℕ) → kinds ≤ k → k < countOf file → lengthOf file k ≤ mostText
 

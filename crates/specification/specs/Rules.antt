@@ -1,8 +1,9 @@
--- Rules and moves (document 01, "Moves and soundness"): refusals 5, 8 and 9, the table, and the frame. Assumes nothing: these are definitions.
+-- Rules and moves (document 01, "Moves and soundness"; document 02, ticket 8): refusals 5, 8 and 9, the table, and the frame. Assumes
+-- nothing: these are definitions.
 use mathlib.Core.Path.{_≡_}
 use mathlib.Core.Bool.{cond}
 use mathlib.Core.List.{List}
-use Prim.Native.Nat.{ℕ, _+_, _-_, _<_}
+use Prim.Native.Nat.{ℕ, _+_, _-_, _≤_, _<_}
 use lib.ListN.{length, getD, take, drop}
 use lib.Dec.{ltb}
 use Rattle.condition.specs.Condition.{Reads, Holds}
@@ -11,7 +12,7 @@ use Rattle.machine.specs.Couples.{Couple}
 use Rattle.machine.specs.declared.Frame.{Frame}
 use Rattle.specification.specs.File.{kinds, neverKind, startsKind, bodyOf, EntryOf, Has}
 use Rattle.verdict.specs.Below.{sumTo}
-use Rattle.specification.specs.Records.{sizesOf, settings, couples, records, recordAt, source, target, textLength}
+use Rattle.specification.specs.Records.{sizesOf, settings, couples, records, recordAt, source, target, textLength, Evolves}
 use Rattle.specification.specs.declared.records.Sizes.{Sizes}
 
 -- kind 4 follows the records: the condition texts, states first, then evolutions, end to end
@@ -31,13 +32,22 @@ conditions z = records z + z .more
 unfoldable pub conditionOf : List ℕ → Sizes → ℕ → List ℕ
 conditionOf file z r = cond (ltb r (records z)) (textOf file z r) (bodyOf file (kinds + (r - records z)))
 
--- refusal 5: condition r does not read
+-- refusal 5: condition r does not read; a state without a rest condition is not asked
 pub record Unreads (file : List ℕ) (z : Sizes) (r : ℕ) : Type 0 where
   pub below : r < conditions z
+  pub worded : z .worded ≤ r
   pub unread : Reads (z .inputs) (conditionOf file z r) → ⊥
 
--- each record is a rule of one state and leads to one: a state's rest condition of itself to itself, an evolution of its source to its
--- target
+-- no evolution from s holds at v
+pub record Idle (file : List ℕ) (z : Sizes) (s v : ℕ) : Type 0 where
+  pub none : (r : ℕ) → Evolves z r → source file z r ≡ s → Holds (z .inputs) v (textOf file z r) → ⊥
+
+-- record r holds at v: its condition does, or, of a state without a rest condition, no evolution from it does
+pub data HoldsAt (file : List ℕ) (z : Sizes) (v r : ℕ) : Type 0 where
+  by-text : z .worded ≤ r → Holds (z .inputs) v (textOf file z r) → HoldsAt file z v r
+  by-rest : r < z .worded → Idle file z r v → HoldsAt file z v r
+
+-- each record is a rule of one state and leads to one: a state's of itself to itself, an evolution of its source to its target
 unfoldable pub ruleOf : List ℕ → Sizes → ℕ → ℕ
 ruleOf file z r = cond (ltb r (z .states)) r (source file z r)
 
@@ -48,7 +58,7 @@ leadsTo file z r = cond (ltb r (z .states)) r (target file z r)
 pub record Fires (file : List ℕ) (z : Sizes) (s v r : ℕ) : Type 0 where
   pub below : r < records z
   pub rule : ruleOf file z r ≡ s
-  pub holds : Holds (z .inputs) v (textOf file z r)
+  pub holds : HoldsAt file z v r
 
 -- two different numbers are F
 pub record Two (F : ℕ → Type 0) : Type 0 where

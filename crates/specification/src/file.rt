@@ -1,10 +1,11 @@
 // The contents of a file: refusal 1.
 ghost use mathlib.Core.Path.{_≡_};
+ghost use mathlib.Core.Bool.{true};
 ghost use mathlib.Core.List.{List};
 ghost use Prim.Native.Nat.{ℕ, _+_, _*_, _<_, _≤_, _^_};
 ghost use lib.ListN.{length, take};
 ghost use Rattle.verdict.specs.Checks.{Decides, Finds};
-ghost use Rattle.specification.specs.File.{twoAt, mark, countOf, entryAt, kindOf, offsetOf, lengthOf, EntryOf, Entries, Headed, Measured};
+ghost use Rattle.specification.specs.File.{twoAt, mark, restsOf, countOf, entryAt, kindOf, offsetOf, lengthOf, EntryOf, Entries, Headed, Measured};
 ghost use Rattle.specification.specs.inner.Private.{KindFits, Decoded};
 use crate::BYTES;
 use basics::wide;
@@ -99,10 +100,21 @@ fn begins(file: &[u8], mark: &[u8]) -> bool
     true
 }
 
-fn has_mark(file: &[u8]) -> bool
-    ensures { λ r. ⌜ Decides (take 4 (now (file .entry)) ≡ mark) r ⌝ }
+// Whether the file has rest conditions, by its mark.
+pub(crate) fn has_rests(file: &[u8]) -> bool
+    ensures { λ r. ⌜ Decides (take 4 (now (file .entry)) ≡ mark true) r ⌝ }
 {
     begins(file, b"SEQ1")
+}
+
+// Whether the file begins with one of the two marks.
+fn has_mark(file: &[u8]) -> bool
+    ensures { λ r. ⌜ Decides (take 4 (now (file .entry)) ≡ mark (restsOf (now (file .entry)))) r ⌝ }
+{
+    if has_rests(file) {
+        return true;
+    }
+    begins(file, b"SEQ2")
 }
 
 // Whether the file has the length, the mark and the count.

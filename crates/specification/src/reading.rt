@@ -62,6 +62,7 @@ fn misshapen(number: usize) -> Shape
             evolutions: 0,
             first: 0,
             more: 0,
+            worded: 0,
         },
     }
 }

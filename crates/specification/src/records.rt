@@ -1,11 +1,12 @@
 // Sizes and records: refusals 2, 4, 6 and 7.
 ghost use mathlib.Core.Path.{_≡_};
+ghost use mathlib.Core.Bool.{cond};
 ghost use Prim.Native.Nat.{ℕ, _+_, _*_, _<_, _≤_, _^_};
 ghost use lib.ListN.{length, getD};
 ghost use Rattle.verdict.specs.Checks.{Decides, Finds};
 ghost use Rattle.basics.specs.Words.{mostOutputs};
 ghost use Rattle.specification.specs.Limits.{mostBytes, mostText};
-ghost use Rattle.specification.specs.File.{kinds, WellFormed};
+ghost use Rattle.specification.specs.File.{kinds, restsOf, Headed, WellFormed};
 ghost use Rattle.verdict.specs.Below.{sumTo};
 ghost use Rattle.specification.specs.Records.{couples as couplesOf, records, recordAt, byteOf, word as wordOf, source as sourceOf, target as targetOf, textLength, sizesOf, Ranges, Sized};
 ghost use Rattle.specification.specs.inner.Private.{mostKinds, Decoded, Laid, Wrong};
@@ -13,6 +14,7 @@ use crate::EVOLUTIONS;
 use crate::TEXT;
 use crate::file::Bodies;
 use crate::file::KINDS;
+use crate::file::has_rests;
 use crate::file::two_at;
 use basics::OUTPUTS;
 use basics::wide;
@@ -21,7 +23,7 @@ use machine::STATES;
 use machine::settings;
 use verdict::Found;
 
-// The sizes of a file, where its records begin, and how many bodies there are beyond kind 4.
+// The sizes of a file, where its records begin, how many bodies there are beyond kind 4, and the first record that has a condition.
 pub(crate) struct Sizes {
     pub inputs: usize,
     pub outputs: usize,
@@ -30,6 +32,7 @@ pub(crate) struct Sizes {
     pub evolutions: usize,
     pub first: usize,
     pub more: usize,
+    pub worded: usize,
 }
 
 // The checks of single records: refusals 4, 6 and 7.
@@ -39,19 +42,32 @@ pub(crate) enum RecordCheck {
     Twice,
 }
 
+// The first record that has a condition: the first state's, or in a file without rest conditions the first evolution's.
+fn worded_of(file: &[u8], states: usize) -> usize
+    requires { ⌜ Headed (now file) ⌝ }
+    ensures { λ r. ⌜ r ≡ cond (restsOf (now (file .entry))) 0 states ⌝ }
+{
+    if has_rests(file) {
+        return 0;
+    }
+    states
+}
+
 pub(crate) fn sizes_of(file: &[u8], b: Bodies) -> Sizes
     requires { ⌜ WellFormed (now file) × Decoded (now file) b ⌝ }
     ensures { λ r. ⌜ r ≡ sizesOf (now (file .entry)) ⌝ }
 {
     let at = b.at[0];
+    let states = wide(file[at + 2]);
     Sizes {
         inputs: wide(file[at]),
         outputs: wide(file[at + 1]),
-        states: wide(file[at + 2]),
+        states: states,
         initial: wide(file[at + 3]),
         evolutions: b.length[2] / 3,
         first: b.at[1],
         more: b.count - KINDS,
+        worded: worded_of(file, states),
     }
 }
 
@@ -173,6 +189,9 @@ pub(crate) fn sized(file: &[u8], b: Bodies, z: Sizes) -> bool
         return false;
     }
     if b.length[1] != 3 * z.states {
+        return false;
+    }
+    if texts_sum(file, z, z.worded) != 0 {
         return false;
     }
     if texts_sum(file, z, z.states + z.evolutions) != b.length[3] {

@@ -3,14 +3,14 @@ ghost use mathlib.Core.Path.{_≡_};
 ghost use Prim.Native.Nat.{ℕ, _+_, _*_, _<_, _≤_};
 ghost use lib.ListN.{length};
 ghost use mathlib.Core.List.{[], _∷_};
-ghost use Rattle.verdict.specs.Checks.{check, Decides, Finds, Judged, Passed};
+ghost use Rattle.verdict.specs.Checks.{check, Decides, None, Finds, Judged, Passed};
 ghost use Rattle.verdict.specs.Buffers.{Filled};
 ghost use Rattle.condition.specs.Condition.{Says, Holds};
-ghost use Rattle.machine.specs.Limits.{mostSettings};
-ghost use Rattle.specification.specs.Records.{records};
+ghost use Rattle.machine.specs.Limits.{mostStates, mostSettings};
+ghost use Rattle.specification.specs.Records.{records, Own};
 ghost use Rattle.specification.specs.Rules.{textOf, conditions, conditionOf, Unreads, ruleOf, leadsTo, TwoRules};
 ghost use Rattle.specification.specs.Reading.{CharacterFor};
-ghost use Rattle.specification.specs.inner.Private.{Laid, Placed, Follows, Linked, Noted, soundChecks};
+ghost use Rattle.specification.specs.inner.Private.{Laid, Placed, Follows, Linked, firstRule, restOf, Noted, soundChecks};
 use crate::EVOLUTIONS;
 use crate::file::KINDS;
 use crate::file::length_of;
@@ -68,7 +68,7 @@ pub(crate) fn check_texts(file: &[u8], z: Sizes, places: &[usize; TEXTS]) -> Ans
     ensures { λ t. ⌜ Judged (check 5 (Unreads (now (file .entry)) z) ∷ []) Passed t ⌝ }
 {
     let count = z.states + z.evolutions + z.more;
-    for r in 0..count {
+    for r in z.worded..count {
         let Meaning::Is(_) = says(file, z, places, r) else {
             return Answer {
                 number: 5,
@@ -155,6 +155,28 @@ pub(crate) fn next_rules(file: &[u8], z: Sizes) -> [usize; TEXTS]
     next
 }
 
+// The first rule of the state s that has a condition, as those from `worded` on have.
+fn first_rule(next: &[usize; TEXTS], worded: usize, s: usize) -> usize
+    requires { ⌜ s < mostStates ⌝ }
+    ensures { λ r. ⌜ r ≡ firstRule (now (next .entry)) worded s ⌝ }
+{
+    if s < worded {
+        return next[s];
+    }
+    s
+}
+
+// What stands for the state s where none of its rules that have a condition holds: s itself if it has no rest condition, or the blank.
+fn rest_of(worded: usize, s: usize) -> u8
+    requires { ⌜ s < mostStates ⌝ }
+    ensures { λ r. ⌜ r ≡ restOf worded s ⌝ }
+{
+    if s < worded {
+        return byte(s);
+    }
+    BLANK_MOVE
+}
+
 // Refusal 8: the first couple at which two rules hold. Up to it the table is filled with the moves, blank where no rule holds.
 pub(crate) fn fill_moves(
     file: &[u8],
@@ -164,7 +186,7 @@ pub(crate) fn fill_moves(
     m: usize,
     table: &mut [u8],
 ) -> Found
-    requires { ⌜ Placed (now file) z (now places) × Linked (now file) z (now next) × ((r : ℕ) → r < records z → leadsTo (now file) z r < z .states) × (m ≤ mostSettings) × (z .states * m ≤ length (now table)) ⌝ }
+    requires { ⌜ Placed (now file) z (now places) × Linked (now file) z (now next) × ((r : ℕ) → r < records z → leadsTo (now file) z r < z .states) × (m ≤ mostSettings) × (z .states * m ≤ length (now table)) × None (Own (now file) z) ⌝ }
     ensures finds { λ t. ⌜ Finds (TwoRules (now (file .entry)) z m) t ⌝ }
     ensures fills { λ t. ⌜ Filled (z .states * m) (λ p x. t ≡ Found.Nothing → Noted (now (file .entry)) z m p x) (now (table .entry)) (now (table .exit)) ⌝ }
 {
@@ -172,13 +194,15 @@ pub(crate) fn fill_moves(
     let count = states + z.evolutions;
     let mut found = Found::Nothing;
     'search: for s in 0..states {
+        let first = first_rule(next, z.worded, s);
+        let rest = rest_of(z.worded, s);
         for v in 0..m {
             let p = s * m + v;
-            let mut to = BLANK_MOVE;
-            let mut r = s;
+            let mut to = rest;
+            let mut r = first;
             while r < count {
                 if rule_holds(file, z, places, r, v) {
-                    if to != BLANK_MOVE {
+                    if to != rest {
                         found = Found::At(p);
                         break 'search;
                     }

@@ -12,7 +12,7 @@ use Rattle.verdict.proofs.Order.{pass, halt, ends, long}
 use Rattle.machine.specs.Moves.{tableMoves, Transient, SameWord, Reached, Start}
 use Rattle.machine.specs.Runs.{machineOf, Sound}
 use Rattle.machine.proofs.Same.{transient-into, reached-into, start-into}
-use Rattle.specification.specs.File.{mark, WellFormed}
+use Rattle.specification.specs.File.{mark, restsOf, WellFormed}
 use Rattle.specification.specs.Records.{sizesOf, settings, word, Sized, Beyond, Own, Twice}
 use Rattle.specification.specs.Rules.{Unreads, Moves, MayStart}
 use Rattle.specification.specs.Reading.{ruleChecks, moveChecks}
@@ -30,7 +30,7 @@ pub record Shaped (file : List ℕ) : Type 0 where
   pub once : None (Twice file (sizesOf file))
 
 -- by computation, where the tree of each text is given
-pub shape : (file : List ℕ) (trees : List (Tree condition)) → spelling file trees ≡ true → take 4 file ≡ mark
+pub shape : (file : List ℕ) (trees : List (Tree condition)) → spelling file trees ≡ true → take 4 file ≡ mark (restsOf file)
     → formed file ≡ true → ranged file ≡ true → recorded file ≡ true → Shaped file
 shape file trees spelt marked e f g =
     let x = record-checks file g in

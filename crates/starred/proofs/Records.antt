@@ -15,7 +15,7 @@ use Rattle.verdict.specs.Below.{every}
 use Rattle.verdict.proofs.Below.{decides-every}
 use Rattle.basics.specs.Words.{mostOutputs}
 use Rattle.specification.specs.Limits.{mostEvolutions, mostBytes, mostText}
-use Rattle.specification.specs.File.{mark, countOf, entryAt, kinds, startsKind, kindOf, offsetOf, lengthOf, startOf, Has, WellFormed}
+use Rattle.specification.specs.File.{mark, restsOf, countOf, entryAt, kinds, startsKind, kindOf, offsetOf, lengthOf, startOf, Has, WellFormed}
 use Rattle.verdict.specs.Below.{sumTo}
 use Rattle.specification.specs.Records.{sizesOf, records, word, source, target, textLength, Sized, Evolves, Beyond, Own, Twice}
 use Rattle.specification.specs.Records.Beyond.{output-beyond, source-beyond, target-beyond}
@@ -35,7 +35,7 @@ module _ (file : List ℕ) where
       && eqb (lengthOf file 1 % 3) 0
       && eqb (lengthOf file 2 % 3) 0
 
-  pub well-formed : take 4 file ≡ mark → formed ≡ true → WellFormed file
+  pub well-formed : take 4 file ≡ mark (restsOf file) → formed ≡ true → WellFormed file
   well-formed marked e =
       let x = (decides-at-most _ _ also decides-at-most _ _ also decides-at-most _ _
       also decides-every kinds _ (λ k. kindOf file k ≡ k + 1) (λ k. decides-equal _ _)
@@ -68,15 +68,17 @@ module _ (file : List ℕ) where
       && ltb (sizesOf file .initial) (sizesOf file .states)
       && leb (sizesOf file .evolutions) mostEvolutions
       && eqb (lengthOf file 1) (3 * sizesOf file .states)
+      && every (sizesOf file .worded) (λ s. eqb (textLength file (sizesOf file) s) 0)
       && eqb (sumTo (textLength file (sizesOf file)) (records (sizesOf file))) (lengthOf file 3)
       && every (countOf file) (λ k. cond (ltb k kinds) true (leb (lengthOf file k) mostText))
 
   pub sized : ranged ≡ true → Sized file
   sized e =
       let x = (decides-at-most _ _ also decides-at-most _ _ also decides-at-most _ _ also decides-at-most _ _ also decides-at-most _ _ also decides-at-most _ _
-      also decides-below _ _ also decides-at-most _ _ also decides-equal _ _ also decides-equal _ _
+      also decides-below _ _ also decides-at-most _ _ also decides-equal _ _
+      also decides-every (sizesOf file .worded) _ (λ s. textLength file (sizesOf file) s ≡ 0) (λ s. decides-equal _ _) also decides-equal _ _
       also decides-every (countOf file) _ (λ k. (k < kinds) ⊎ (lengthOf file k ≤ mostText)) (λ k. decides-either (decides-below _ _) (decides-at-most _ _))) .holds e in
-      let r = x .0 .0 .0 in
+      let r = x .0 .0 .0 .0 in
       record {
         ranges = record {
           some-input = r .0 .0 .0 .0 .0 .0 .0;
@@ -88,7 +90,8 @@ module _ (file : List ℕ) where
           begins = r .0 .1;
           few-evolutions = r .1;
         };
-        states = x .0 .0 .1;
+        states = x .0 .0 .0 .1;
+        empty = x .0 .0 .1;
         texts = x .0 .1;
         bodies = λ k h l. ⊎-elim (λ m. absurd (omega arith)) (λ m. m) (x .1 k l);
       }

@@ -3,7 +3,7 @@
 use mathlib.Core.Path.{_≡_, refl, sym, ap, ap₂, subst, subst₂, _∙_}
 use mathlib.Core.List.{List, [], _∷_}
 use mathlib.Core.Bool.{Bool, true, false, _&&_}
-use Prim.Native.Nat.{ℕ, _/_, _%_, _<_}
+use Prim.Native.Nat.{ℕ, _/_, _%_, _≤_, _<_}
 use native.Mathlib.Omega.{arith}
 use lib.ListN.{getD}
 use lib.Dec.{eqb, leb, ltb}
@@ -22,8 +22,9 @@ use Rattle.verdict.proofs.Tests.{true≢false, it-holds, it-fails, decides-map,
 use Rattle.verdict.specs.Below.{every}
 use Rattle.verdict.proofs.Below.{decides-every}
 use Rattle.specification.specs.Records.{sizesOf, settings, couples, records}
-use Rattle.specification.specs.Rules.{textOf, conditions, conditionOf, ruleOf, leadsTo, Unreads, Fires, TwoRules, NoRule, Moves, MoveAt}
+use Rattle.specification.specs.Rules.{textOf, conditions, conditionOf, by-text, ruleOf, leadsTo, Unreads, Fires, TwoRules, NoRule, Moves, MoveAt}
 use Rattle.specification.proofs.Conditions.{condition-record}
+use Rattle.specification.proofs.Forms.{of-text}
 
 -- two tests say the same
 abbrev pub same : Bool → Bool → Bool
@@ -90,10 +91,10 @@ module _ (file : List ℕ) where
   abbrev pub treeOf : List (Tree condition) → ℕ → Tree condition
   treeOf trees r = getD trees r (one (one off))
 
-  -- the text of each condition is that of its tree, within the limits
+  -- each record has a condition, and the text of each condition is that of its tree, within the limits
   unfoldable pub spelling : List (Tree condition) → Bool
   unfolding sameText lettersBelow
-  spelling trees = every (conditions (sizesOf file)) (λ r.
+  spelling trees = eqb (sizesOf file .worded) 0 && every (conditions (sizesOf file)) (λ r.
       sameText (text (treeOf trees r)) (conditionOf file (sizesOf file) r) && leb (opened (treeOf trees r)) parentheses && lettersBelow (sizesOf file .inputs) (treeOf trees r))
 
   module _ (trees : List (Tree condition)) where
@@ -102,10 +103,14 @@ module _ (file : List ℕ) where
     firing s v r = eqb (ruleOf file (sizesOf file) r) s && holds v (treeOf trees r)
 
     module _ (spelt : spelling trees ≡ true) where
+      worded : (r : ℕ) → sizesOf file .worded ≤ r
+      unfolding spelling
+      worded r = omega (arith, eqb-true (sizesOf file .worded) 0 (both (eqb (sizesOf file .worded) 0) _ spelt .0))
+
       reads-as : (r : ℕ) → r < conditions (sizesOf file) → {w : List ℕ} → conditionOf file (sizesOf file) r ≡ w → Reads (sizesOf file .inputs) w
       unfolding spelling
       reads-as r h is =
-          let (e, k) = both _ _ (decides-every (conditions (sizesOf file)) _ _ (λ r. decides-true _) .holds spelt r h) in
+          let (e, k) = both _ _ (decides-every (conditions (sizesOf file)) _ _ (λ r. decides-true _) .holds (both (eqb (sizesOf file .worded) 0) _ spelt .1) r h) in
           let (t, o) = both _ _ e in
           record { tree = treeOf trees r; spelt = one-text _ _ t ∙ is; nested = leb-true _ _ o; known = letters-below (sizesOf file .inputs) (treeOf trees r) k }
 
@@ -119,8 +124,10 @@ module _ (file : List ℕ) where
       decides-fires : (s v r : ℕ) → r < records (sizesOf file) → Decides (Fires file (sizesOf file) s v r) (firing s v r)
       unfolding reads reads-as
       decides-fires s v r h = decides-map
-          (λ x. record { below = h; rule = x .0; holds = record { reads = reads r h; true-there = x .1 } })
-          (λ x. (x .rule, ap (λ t. holds v t) (one-tree _ _ ((reads r h) .spelt ∙ sym (x .holds .reads .spelt))) ∙ x .holds .true-there))
+          (λ x. record { below = h; rule = x .0; holds = by-text (worded r) (record { reads = reads r h; true-there = x .1 }) })
+          (λ x.
+          let y = of-text (worded r) (x .holds) in
+          (x .rule, ap (λ t. holds v t) (one-tree _ _ ((reads r h) .spelt ∙ sym (y .reads .spelt))) ∙ y .true-there))
           (decides-equal _ _ also decides-true (holds v (treeOf trees r)))
 
       pub fires : (s v r : ℕ) → r < records (sizesOf file) → firing s v r ≡ true → Fires file (sizesOf file) s v r

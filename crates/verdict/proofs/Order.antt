@@ -3,10 +3,11 @@
 use mathlib.Core.Path.{_≡_, refl, sym, ap₂, _∙_}
 use mathlib.Core.List.{List, [], _∷_, _++_}
 use mathlib.Core.Bool.{Bool, true, _&&_}
+use mathlib.Core.Logic.{⊎-elim}
 use Prim.Native.Nat.{ℕ, _≤_, _<_}
 use lib.Dec.{leb}
 use native.Mathlib.Omega.{arith}
-use Rattle.verdict.specs.Checks.{Least, None, Check, check, Then, refused, next, Verdict, Passed, Unless, Short, Within, Judged}
+use Rattle.verdict.specs.Checks.{Least, None, Check, check, Then, refused, next, Verdict, Passed, Unless, Short, Within, Past, Judged}
 use Rattle.verdict.specs.declared.Answer.{Answer}
 use Rattle.verdict.proofs.Tests.{least-unique, decides-at-most, decides-true, _also_}
 
@@ -96,6 +97,15 @@ rest (c ∷ cs) ds done a p (next n v) = rest cs ds done a (p .1) v
 
 pub judged-rest : (cs : List Check) {ds : List Check} {done : Answer → Type 0} {a : Answer} → Passes cs → Judged (cs ++ ds) done a → Judged ds done a
 judged-rest cs {ds} {done} {a} p v = record { verdict = rest cs ds done a p (v .verdict) }
+
+-- a verdict whose number is not among those of a front: the front passed
+past : (cs ds : List Check) (done : Answer → Type 0) (high : ℕ) (a : Answer) → Numbered 1 high cs → Past high (a .number) → Verdict (cs ++ ds) done a → Passes cs
+past [] ds done high a num n v = tt
+past (c ∷ cs) ds done high a num n (refused l e) = let (i, (j, _)) = within 1 high c cs num in absurd (⊎-elim (λ z. omega (arith, z)) (λ k. omega (arith, k)) n)
+past (c ∷ cs) ds done high a num n (next m v) = (m, past cs ds done high a (within 1 high c cs num .1 .1) n v)
+
+pub judged-past : (cs : List Check) {ds : List Check} {done : Answer → Type 0} {a : Answer} (high : ℕ) → Judged (cs ++ ds) done a → Numbered 1 high cs → Past high (a .number) → Passes cs × Judged ds done a
+judged-past cs {ds} {done} {a} high v num n = let p = past cs ds done high a num n (v .verdict) in (p, judged-rest cs p v)
 
 -- a check passed, a check that refuses
 pub pass : {F : ℕ → Type 0} {n : ℕ} {cs : List Check} {done : Answer → Type 0} {a : Answer} → None F → Judged cs done a → Judged (check n F ∷ cs) done a

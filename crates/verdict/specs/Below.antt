@@ -1,6 +1,6 @@
--- The numbers below n: a test of each, a sum over them, and a list. Assumes nothing: these are definitions.
+-- The numbers below n: a test of each, a sum over them, a list, and lists end to end. Assumes nothing: these are definitions.
 use mathlib.Core.Bool.{Bool, true, _&&_}
-use mathlib.Core.List.{List, [], _∷_}
+use mathlib.Core.List.{List, [], _∷_, _++_}
 use Prim.Native.Nat.{ℕ, zero, suc, _+_}
 
 -- f holds of every number below n
@@ -17,3 +17,8 @@ sumTo f (suc n) = sumTo f n + f n
 unfoldable pub listTo : (ℕ → ℕ) → ℕ → List ℕ
 listTo f zero = []
 listTo f (suc n) = f zero ∷ listTo (λ i. f (suc i)) n
+
+-- f 0, …, f (n - 1), end to end
+unfoldable pub joinTo : (ℕ → List ℕ) → ℕ → List ℕ
+joinTo f zero = []
+joinTo f (suc n) = joinTo f n ++ f n

@@ -57,6 +57,10 @@ pub record Within (G : Type 0) (F : ℕ → Type 0) (p : ℕ) : Type 0 where
   pub fit : G
   pub fault : F p
 
+-- past the refusals 1 to k: success, or a later one
+abbrev pub Past : ℕ → ℕ → Type 0
+Past k number = (number ≡ 0) ⊎ (k < number)
+
 -- success with place 0
 pub record Passed (a : Answer) : Type 0 where
   pub number : a .number ≡ 0

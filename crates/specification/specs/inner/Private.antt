@@ -1,9 +1,10 @@
 -- What private functions require and answer.
 use mathlib.Core.Path.{_≡_}
-use mathlib.Core.Bool.{true, false}
+use mathlib.Core.Bool.{true, false, cond}
 use mathlib.Core.List.{List, _∷_, _++_}
 use Prim.Native.Nat.{ℕ, _+_, _-_, _≤_, _<_}
 use lib.ListN.{length, getD}
+use lib.Dec.{ltb}
 use Rattle.verdict.specs.Checks.{Check, check, Judged, Passed}
 use Rattle.verdict.specs.Buffers.{Left}
 use Rattle.verdict.specs.declared.Answer.{Answer}
@@ -50,6 +51,7 @@ pub record Laid (file : List ℕ) (z : Sizes) : Type 0 where
   pub formed : WellFormed file
   pub ranges : Ranges z
   pub counted : z .more ≡ countOf file - kinds
+  pub worded : z .worded ≤ z .states
   pub texts : textAt file z (records z) ≤ length file
   pub few : length file ≤ mostBytes
 
@@ -72,6 +74,14 @@ pub record Follows (file : List ℕ) (z : Sizes) (r n : ℕ) : Type 0 where
 
 pub record Linked (file : List ℕ) (z : Sizes) (next : List ℕ) : Type 0 where
   pub at : (r : ℕ) → r < records z → Follows file z r (getD next r 0)
+
+-- the first rule of the state s that has a condition, as the records from `worded` on have
+abbrev pub firstRule : List ℕ → ℕ → ℕ → ℕ
+firstRule next worded s = cond (ltb s worded) (getD next s 0) s
+
+-- what stands for the state s where none of its rules that have a condition holds: s itself if it has no rest condition, or the blank
+abbrev pub restOf : ℕ → ℕ → ℕ
+restOf worded s = cond (ltb s worded) s blankMove
 
 -- x stands for the couple p: the move, or the blank where no rule holds
 pub record Noted (file : List ℕ) (z : Sizes) (m p x : ℕ) : Type 0 where

@@ -16,7 +16,7 @@ returns c = let n = c .if1 .taken in (judged-stop _ (c .before .before .check-re
 fill-moves-requires : tie.Need-fill-moves-requires
 fill-moves-requires c κs =
     let k = c .before .before .before .settings .ensures .0 .0 (c .before .before .before .before .before .before .before .before .before .before .before .before .before .before .before .before .before .pre .0 .ranges .few-inputs) in
-    (c .before .before .before .before .before .before .before .before .before .before .before .before .before .places-of .ensures, c .before .before .before .before .next-rules .ensures, leads-below (c .before .before .before .before .before .before .before .before .before .before .before .before .before .before .before .before .before .args .file .now) (c .before .before .before .before .before .before .before .before .before .before .before .before .before .before .before .before .before .args .z) (judged-passes 7 (c .before .before .before .before .before .before .before .before .before .before .before .check-records .ensures) refl (c .before .before .before .before .before .before .before .before .before .if1 .left) .0), c .before .before .before .settings .ensures .0 .1, omega (arith, ap (λ (m : ℕ). c .before .before .before .before .before .before .before .before .before .before .before .before .before .before .before .before .before .args .z .states * m) k))
+    (c .before .before .before .before .before .before .before .before .before .before .before .before .before .places-of .ensures, c .before .before .before .before .next-rules .ensures, leads-below (c .before .before .before .before .before .before .before .before .before .before .before .before .before .before .before .before .before .args .file .now) (c .before .before .before .before .before .before .before .before .before .before .before .before .before .before .before .before .before .args .z) (judged-passes 7 (c .before .before .before .before .before .before .before .before .before .before .before .check-records .ensures) refl (c .before .before .before .before .before .before .before .before .before .if1 .left) .0), c .before .before .before .settings .ensures .0 .1, omega (arith, ap (λ (m : ℕ). c .before .before .before .before .before .before .before .before .before .before .before .before .before .before .before .before .before .args .z .states * m) k), judged-passes 7 (c .before .before .before .before .before .before .before .before .before .before .before .check-records .ensures) refl (c .before .before .before .before .before .before .before .before .before .if1 .left) .1 .1 .0)
 
 returns-2 : tie.Need-returns-2
 returns-2 c =
