@@ -9,10 +9,11 @@
  * exactly one input. It visits the couple of its start and, at each change, that of the state and the
  * new setting, then the one it moves to. A couple that some run visits is marked. A run that may change
  * several inputs is the same, but its settings differ from the one before in at least one input; a
- * change of two or more is a multiple change. A file's records are its states, then its evolutions, then
- * the condition of kind 5 if it has one, at which a setting is ruled out, then that of kind 6 if it has
- * one, at which a setting is an allowed start; they are numbered from 0. A buffer's needed part is what
- * the answer uses of it.
+ * change of two or more is a multiple change. A file begins SEQ1, where a state rests at the settings at
+ * which its rest condition holds, or SEQ2, where it has none and rests wherever none of its evolutions
+ * holds. A file's records are its states, then its evolutions, then the condition of kind 5 if it has
+ * one, at which a setting is ruled out, then that of kind 6 if it has one, at which a setting is an
+ * allowed start; they are numbered from 0. A buffer's needed part is what the answer uses of it.
  *
  * Every function takes any numbers and any contents. A pointer is never null, whatever its length,
  * and valid for the number of elements that its length names; a buffer that is written does not
@@ -21,18 +22,19 @@
  * Each answer carries a number and a place; number 0 is success. The refusals:
  *
  *   No.  when                                                      place
- *    1   file too long or too short, or its contents wrong         0
- *        (bodies of kinds 1 to 4, then kind 5 or not, then kind 6 or not)
+ *    1   file too long or too short, or its mark or contents       0
+ *        wrong (bodies of kinds 1 to 4, then kind 5 or not, then kind 6 or not)
  *    2   a size outside its range, or sizes that do not agree      0
- *        (kinds 5 and 6 have at most 255 bytes each)
+ *        (kinds 5 and 6 have at most 255 bytes each, a state's
+ *        text in SEQ2 none)
  *    3   a table, word, record, rank or reading buffer too short   needed elements of the first such
  *    4   output bit beyond the outputs; state not below states     record, or couple
  *    5   condition does not read                                   record (kinds 5 and 6: after the last
  *                                                                  evolution), and beside it the character
  *    6   evolution to its own source                               record
  *    7   same source and target as an earlier evolution            record
- *    8   two rules hold                                            couple
- *    9   no rule holds                                             couple
+ *    8   two rules hold (in SEQ2: two evolutions)                  couple
+ *    9   no rule holds (not in SEQ2)                               couple
  *   10   transient: the move's own couple is not at rest           couple
  *   11   output word of an earlier state                           state
  *   12   state never reached                                       state

@@ -1,8 +1,11 @@
 //! Specification files from readable descriptions.
 
+use crate::plain::{SEQ1, SEQ2};
+
 /// A specification as its author would say it.
 #[derive(Clone, Debug, PartialEq, Eq)]
 pub struct File {
+    pub mark: [u8; 4],
     pub inputs: u8,
     pub outputs: u8,
     pub initial: u8,
@@ -14,7 +17,7 @@ pub struct File {
     pub starts: Option<String>,
 }
 
-/// A state: its output word and its rest condition.
+/// A state: its output word and its rest condition, empty if it has none.
 #[derive(Clone, Debug, PartialEq, Eq)]
 pub struct State {
     pub word: u16,
@@ -45,6 +48,7 @@ impl File {
             condition: condition.to_string(),
         };
         File {
+            mark: SEQ1,
             inputs,
             outputs,
             initial: 0,
@@ -65,6 +69,12 @@ impl File {
         File { starts: Some(condition.to_string()), ..self }
     }
 
+    /// The specification as SEQ2: its states have no rest conditions.
+    pub fn without_rests(mut self) -> File {
+        self.states.iter_mut().for_each(|state| state.rest.clear());
+        File { mark: SEQ2, ..self }
+    }
+
     /// The conditions in the order of the records, to be changed: states, evolutions, settings never
     /// used, allowed starts.
     pub fn conditions_mut(&mut self) -> impl Iterator<Item = &mut String> {
@@ -80,7 +90,7 @@ impl File {
 
     /// The file's bytes.
     pub fn bytes(&self) -> Vec<u8> {
-        with_contents(&self.bodies())
+        with_contents(self.mark, &self.bodies())
     }
 
     /// The file's bytes with any bytes as the condition of a record.
@@ -115,9 +125,9 @@ impl File {
     }
 }
 
-/// A file of the given kinds and bodies, after its contents.
-pub fn with_contents(bodies: &[(u8, Vec<u8>)]) -> Vec<u8> {
-    let mut file = b"SEQ1".to_vec();
+/// A file of the given mark, kinds and bodies, after its contents.
+pub fn with_contents(mark: [u8; 4], bodies: &[(u8, Vec<u8>)]) -> Vec<u8> {
+    let mut file = mark.to_vec();
     file.push(bodies.len() as u8);
     let mut offset = 5 + 5 * bodies.len();
     for (kind, body) in bodies {

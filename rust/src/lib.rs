@@ -100,7 +100,8 @@ const _: () = {
 // SAFETY of every call below: each pointer is a slice's own, so never null, whatever its length, and
 // valid for the length beside it; the borrows keep what is written apart from all else.
 
-/// Reads a specification file into a table, the states' output words and the evolutions' records.
+/// Reads a specification file, SEQ1 or SEQ2, into a table, the states' output words and the evolutions'
+/// records.
 pub fn read(
     file: &[u8],
     table: &mut [u8],

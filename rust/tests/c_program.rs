@@ -12,6 +12,7 @@ run 0 1 0
 readings 0 1 1 0 0
 never 1 0 0
 starts 3 0 0 1 0
+without 0 1 0 1
 ";
 
 /// What `hands.c` prints: each run of the list as it is stored.

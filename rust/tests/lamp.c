@@ -1,7 +1,7 @@
 /*
  * The lamp through the entry points, as C and as C++: layouts, reading, evolutions, marks, plan, run,
  * the plan shortened, readings; and the lamp with a setting that is never used, with other allowed
- * starts, and with conditions that do not read.
+ * starts, without rest conditions, and with conditions that do not read.
  */
 
 #include <assert.h>
@@ -46,6 +46,16 @@ static const uint8_t never_on[53] = {
     0, 1, 1, 1, 0, 2,
     '!', 'a', 'a', 'a', '!', 'a',
     'a',
+};
+
+/* The lamp without rest conditions. */
+static const uint8_t no_rests[44] = {
+    'S', 'E', 'Q', '2', 4,
+    1, 25, 0, 4, 0, 2, 29, 0, 6, 0, 3, 35, 0, 6, 0, 4, 41, 0, 3, 0,
+    1, 1, 2, 0,
+    0, 0, 0, 1, 0, 0,
+    0, 1, 1, 1, 0, 2,
+    'a', '!', 'a',
 };
 
 /* Where the kind and the condition of the fifth body stand in that file. */
@@ -229,6 +239,23 @@ static void check_starts(mundrefol_frame frame, const uint8_t *table, const uint
     show("starts", plan, 5);
 }
 
+/* Reads the lamp without rest conditions, with another byte at a place of the file. */
+static void check_without_rests(size_t at, uint8_t with, size_t number)
+{
+    uint8_t file[sizeof no_rests], table[4] = {99, 99, 99, 99};
+    uint16_t words[2];
+    mundrefol_evolution records[2];
+    memcpy(file, no_rests, sizeof file);
+    file[at] = with;
+    mundrefol_contents contents = mundrefol_read(file, sizeof file, table, 4, words, 2, records, 2);
+    CHECK(contents.number == number && contents.place == 0);
+    if (number != 0)
+        return;
+    CHECK(contents.outputs == 1 && contents.evolutions == 2 && has_sets(contents.frame, 0, 1));
+    CHECK(words[0] == 0 && words[1] == 1 && records[0].at == 41 && records[1].at == 42 && records[1].length == 2);
+    show("without", table, 4);
+}
+
 int main(void)
 {
     uint8_t table[5] = {99, 99, 99, 99, 99};
@@ -245,5 +272,9 @@ int main(void)
     check_readings(frame, table, words);
     check_never(table, words, records);
     check_starts(frame, table, words);
+    check_without_rests(3, '2', 0);
+    check_without_rests(3, '1', 5);
+    check_without_rests(3, '3', 1);
+    check_without_rests(34, 1, 2);
     return 0;
 }

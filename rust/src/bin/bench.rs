@@ -1,6 +1,7 @@
 //! Times the library against the independent implementation on the same inputs, in one run.
 
-use mundrefol::generate::{largest_file, list_of, longest_table, plan_of, widest_table, Table};
+use mundrefol::generate::{largest_file, largest_without_rests, list_of, longest_table, plan_of};
+use mundrefol::generate::{widest_table, Table};
 use mundrefol::plain::{self, lines, queue, Jobs, RunTo, Write};
 use mundrefol::plain::{COUPLES, ENTRIES, EVOLUTIONS, FILE, INPUTS, STATES, UNMARKED};
 use mundrefol::{examples, Contents, Entry, Evolution, Frame, Log, Noted};
@@ -39,6 +40,7 @@ fn main() {
     bench_file("all marked", &examples::counter(INPUTS as u8, STATES as u8 / 2).bytes());
     let largest = bench_file("largest", &largest_file(FILE).bytes());
     bench_sizes("largest", &largest);
+    bench_reading("largest without rest conditions", &largest_without_rests(FILE).bytes());
     for (name, table) in [("longest runs", longest_table()), ("most changes", widest_table())] {
         head(name, "", &table);
         bench_table(&table);
@@ -114,8 +116,18 @@ fn head(name: &str, size: &str, table: &Table) {
 }
 
 fn bench_file(name: &str, file: &[u8]) -> Table {
-    let mut ours = Buffers::new();
-    let mut theirs = Buffers::new();
+    let table = bench_reading(name, file);
+    bench_table(&table);
+    row("sheet", &mut || drop(black_box(lines(LIBRARY, black_box(file)))), &mut || {
+        drop(black_box(lines(PLAIN, black_box(file))))
+    });
+    bench_program(file);
+    table
+}
+
+/// Reading a file, and what it is read to.
+fn bench_reading(name: &str, file: &[u8]) -> Table {
+    let (mut ours, mut theirs) = (Buffers::new(), Buffers::new());
     let contents = plain::read(file, &mut theirs.table, &mut theirs.words, &mut theirs.records);
     let Contents { answer, evolutions, frame, .. } = contents;
     assert_eq!(answer.number, 0);
@@ -138,11 +150,6 @@ fn bench_file(name: &str, file: &[u8]) -> Table {
         ));
     };
     row("reading", &mut library, &mut independent);
-    bench_table(&table);
-    row("sheet", &mut || drop(black_box(lines(LIBRARY, black_box(file)))), &mut || {
-        drop(black_box(lines(PLAIN, black_box(file))))
-    });
-    bench_program(file);
     table
 }
 

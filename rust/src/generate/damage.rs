@@ -1,13 +1,33 @@
 //! Damaged files: faults of the description, of the bytes, and files at and beyond the limits.
 
 use super::contents::{first_body, other_bodies, recount, shift_entry, wrap_contents};
-use super::files::{largest_file, random_file, settled_file};
+use super::files::{largest_file, largest_without_rests, random_file, settled_file};
 use super::sets::spoil_optional;
 use super::texts::{nested, random_condition};
 use super::unreadable::unreadable;
 use super::Random;
 use crate::file::{with_contents, File, Leaving, State};
-use crate::plain::{FILE, INPUTS, OUTPUTS, STATES, TEXT};
+use crate::plain::{FILE, INPUTS, OUTPUTS, SEQ1, SEQ2, STATES, TEXT};
+
+/// A form of files: its mark, the largest of so many bytes, and any other file brought into it.
+struct Form {
+    mark: [u8; 4],
+    largest: fn(usize) -> File,
+    of: fn(&mut Random, File) -> File,
+}
+
+const WITH_RESTS: Form = Form { mark: SEQ1, largest: largest_file, of: |_, file| file };
+const WITHOUT_RESTS: Form = Form { mark: SEQ2, largest: largest_without_rests, of: without_rests };
+
+/// The file as SEQ2, now and then with a rest condition.
+fn without_rests(random: &mut Random, file: File) -> File {
+    let mut file = file.without_rests();
+    if random.once_in(16) && !file.states.is_empty() {
+        let record = random.below(file.states.len());
+        replace_text(random, &mut file, record);
+    }
+    file
+}
 
 /// Faults of the description, each of a kind that some check is there for.
 fn spoil(random: &mut Random, file: &mut File) {
@@ -147,8 +167,17 @@ fn swap_lengths(random: &mut Random, bytes: &mut [u8]) {
 
 /// A file with up to two faults, or of an extreme size.
 pub fn damaged(random: &mut Random) -> Vec<u8> {
+    damaged_as(random, &WITH_RESTS)
+}
+
+/// The same of files without rest conditions, in which a state now and then has one all the same.
+pub fn damaged_without_rests(random: &mut Random) -> Vec<u8> {
+    damaged_as(random, &WITHOUT_RESTS)
+}
+
+fn damaged_as(random: &mut Random, form: &Form) -> Vec<u8> {
     if random.once_in(150) {
-        return extreme(random);
+        return extreme(random, form);
     }
     let mut file = if random.once_in(5) { random_file(random) } else { settled_file(random) };
     let mut of_bytes = false;
@@ -159,8 +188,9 @@ pub fn damaged(random: &mut Random) -> Vec<u8> {
             spoil(random, &mut file);
         }
     }
+    let file = (form.of)(random, file);
     if of_bytes && random.once_in(4) {
-        return with_contents(&other_bodies(random, &file));
+        return with_contents(file.mark, &other_bodies(random, &file));
     }
     let mut bytes = if random.once_in(8) { with_unreadable(random, file) } else { file.bytes() };
     if of_bytes {
@@ -180,39 +210,39 @@ fn with_unreadable(random: &mut Random, mut file: File) -> Vec<u8> {
 }
 
 /// Files at and beyond the limits: sizes, evolutions, texts.
-fn extreme(random: &mut Random) -> Vec<u8> {
+fn extreme(random: &mut Random, form: &Form) -> Vec<u8> {
     match random.below(8) {
-        0 => largest_file(FILE).bytes(),
-        1 => largest_file(FILE + random.between(1, 2)).bytes(),
+        0 => (form.largest)(FILE).bytes(),
+        1 => (form.largest)(FILE + random.between(1, 2)).bytes(),
         2 => vec![b'S'; random.between(24, 26)],
-        3 => too_many_evolutions(random),
-        4 => too_many_states(),
+        3 => too_many_evolutions(random, form),
+        4 => (form.of)(random, too_many_states()).bytes(),
         5 => {
-            let mut bytes = largest_file(random.between(61_000, FILE)).bytes();
+            let mut bytes = (form.largest)(random.between(61_000, FILE)).bytes();
             spoil_bytes(random, &mut bytes);
             bytes
         }
         6 => {
-            let mut file = largest_file(random.between(61_000, FILE));
+            let mut file = (form.largest)(random.between(61_000, FILE));
             spoil(random, &mut file);
             file.bytes()
         }
-        _ => [b"SEQ1\x04".to_vec(), vec![0; random.between(65_000, 70_000)]].concat(),
+        _ => [&form.mark[..], &[4], &vec![0; random.between(65_000, 70_000)]].concat(),
     }
 }
 
-/// 992 evolutions and one or two more.
-fn too_many_evolutions(random: &mut Random) -> Vec<u8> {
-    let mut file = largest_file(61_000);
+/// The most evolutions and one or two more.
+fn too_many_evolutions(random: &mut Random, form: &Form) -> Vec<u8> {
+    let mut file = (form.largest)(61_000);
     for _ in 0..random.between(1, 2) {
         file.evolutions.push(Leaving { source: 0, target: 1, condition: "0".to_string() });
     }
     file.bytes()
 }
 
-/// 33 states, without a fault otherwise.
-fn too_many_states() -> Vec<u8> {
+/// One state too many, without a fault otherwise.
+fn too_many_states() -> File {
     let state = |word| State { word, rest: "1".to_string() };
     let states = (0..=STATES as u16).map(state).collect();
-    File { states, ..File::new(1, 16, &[], &[]) }.bytes()
+    File { states, ..File::new(1, 16, &[], &[]) }
 }

@@ -5,7 +5,7 @@ use super::tables::{sizes, Regions};
 use super::texts::{dressed, nested, random_condition, sum_of_products, Product};
 use super::Random;
 use crate::file::{File, Leaving, State};
-use crate::plain::{EVOLUTIONS, INPUTS, OUTPUTS, STATES, TEXT};
+use crate::plain::{EVOLUTIONS, INPUTS, OUTPUTS, SEQ1, SEQ2, STATES, TEXT};
 
 /// Different words in a random order, or now and then any words.
 fn words(random: &mut Random, states: usize, outputs: usize) -> Vec<u16> {
@@ -124,16 +124,21 @@ pub fn random_bytes(random: &mut Random) -> Vec<u8> {
     let length = random.between(0, 80);
     let mut bytes: Vec<u8> = (0..length).map(|_| random.bits() as u8).collect();
     if random.once_in(2) && bytes.len() >= 5 {
-        bytes[..4].copy_from_slice(b"SEQ1");
+        bytes[..4].copy_from_slice(&random.pick(&[SEQ1, SEQ2])[..]);
         bytes[4] = random.between(3, 7) as u8;
     }
     bytes
 }
 
+/// The conditions of a file, which are all but the empty texts of states without them.
+fn conditions(file: &mut File) -> impl Iterator<Item = &mut String> {
+    file.conditions_mut().filter(|text| !text.is_empty())
+}
+
 /// Lengthens conditions without changing what they say, until the file has that many bytes.
 fn pad(file: &mut File, bytes: usize) {
     let mut missing = bytes.saturating_sub(file.bytes().len());
-    for text in file.conditions_mut() {
+    for text in conditions(file) {
         while missing >= 2 && text.len() + 3 <= TEXT {
             let more = if missing == 3 { "+!1" } else { "+0" };
             text.push_str(more);
@@ -149,6 +154,15 @@ const STARTS_BYTES: usize = 6;
 /// A sound file of 8 inputs, 32 states and 992 evolutions with that many bytes: at each setting one
 /// state rests, and every other moves to it; kind 6 is `1`.
 pub fn largest_file(bytes: usize) -> File {
+    largest(bytes, |file| file)
+}
+
+/// The same without rest conditions.
+pub fn largest_without_rests(bytes: usize) -> File {
+    largest(bytes, File::without_rests)
+}
+
+fn largest(bytes: usize, form: fn(File) -> File) -> File {
     let part = |state: usize| (Product { named: STATES - 1, on: state }, vec![state as u8; STATES]);
     let regions =
         Regions { inputs: INPUTS, states: STATES, parts: (0..STATES).map(part).collect() };
@@ -161,7 +175,7 @@ pub fn largest_file(bytes: usize) -> File {
         (0..8).map(split).collect::<Vec<_>>()
     };
     let mut count = 0;
-    let mut file = file_of_regions(&regions, &words, OUTPUTS, 0, |products| {
+    let file = file_of_regions(&regions, &words, OUTPUTS, 0, |products| {
         count += 1;
         if count % 8 == 0 {
             sum_of_products(&fine(&products[0]))
@@ -170,6 +184,7 @@ pub fn largest_file(bytes: usize) -> File {
         }
     });
     assert_eq!(file.evolutions.len(), EVOLUTIONS);
+    let mut file = form(file);
     spread_padding(&mut file, bytes - STARTS_BYTES);
     file.starts("1")
 }
@@ -177,8 +192,8 @@ pub fn largest_file(bytes: usize) -> File {
 /// Pads every condition about evenly, then the first ones up to the whole size.
 fn spread_padding(file: &mut File, bytes: usize) {
     let missing = bytes.saturating_sub(file.bytes().len());
-    let records = file.conditions_mut().count();
-    for text in file.conditions_mut() {
+    let records = conditions(file).count();
+    for text in conditions(file) {
         let share = (missing / records / 2).min((TEXT - text.len()) / 2);
         text.push_str(&"+0".repeat(share));
     }

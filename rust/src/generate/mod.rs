@@ -14,8 +14,9 @@ mod texts;
 mod unreadable;
 
 pub use apart::{any_apart, widest_table};
-pub use damage::damaged;
-pub use files::{file_of_regions, largest_file, random_bytes, random_file, settled_file};
+pub use damage::{damaged, damaged_without_rests};
+pub use files::{file_of_regions, largest_file, largest_without_rests};
+pub use files::{random_bytes, random_file, settled_file};
 pub use lists::{list_of, multi_runs_of, multiple_changes};
 pub use logs::{any_log, any_reading};
 pub use plans::{any_plan, any_runs, multi_walk, plan_of, runs_of, spoil_run, stored, walk, Walk};

@@ -3,7 +3,11 @@
 use super::FILE;
 use std::ops::Range;
 
-const MARK: &[u8] = b"SEQ1";
+/// The mark of a file whose states have rest conditions.
+pub const SEQ1: [u8; 4] = *b"SEQ1";
+/// The mark of a file whose states have none: a state rests where none of its evolutions holds.
+pub const SEQ2: [u8; 4] = *b"SEQ2";
+
 const ENTRY_BYTES: usize = 5;
 const SIZES_BYTES: usize = 4;
 
@@ -18,8 +22,9 @@ const STARTS: u8 = 6;
 /// Bytes of a record of a state or an evolution.
 pub const RECORD_BYTES: usize = 3;
 
-/// Where the bodies of a file stand.
+/// Whether the states of a file have rest conditions, and where its bodies stand.
 pub struct Bodies {
+    pub rests: bool,
     pub sizes: Range<usize>,
     pub states: Range<usize>,
     pub evolutions: Range<usize>,
@@ -34,16 +39,18 @@ impl Bodies {
         if file.len() > FILE {
             return None;
         }
-        let (&count, entries) = file.strip_prefix(MARK)?.split_first()?;
+        let (&mark, after) = file.split_first_chunk()?;
+        let (&count, entries) = after.split_first()?;
         let entries = entries.get(..ENTRY_BYTES * usize::from(count))?;
-        let first = MARK.len() + 1 + entries.len();
+        let first = mark.len() + 1 + entries.len();
         let kinds: Vec<u8> = entries.chunks_exact(ENTRY_BYTES).map(|entry| entry[0]).collect();
         let places = end_to_end(entries, first, file.len())?;
-        if !kinds_fit(&kinds) {
+        if !kinds_fit(&kinds) || ![SEQ1, SEQ2].contains(&mark) {
             return None;
         }
         let place = |kind| Some(places[kinds.iter().position(|&it| it == kind)?].clone());
         let bodies = Bodies {
+            rests: mark == SEQ1,
             sizes: place(SIZES)?,
             states: place(STATES)?,
             evolutions: place(EVOLUTIONS)?,

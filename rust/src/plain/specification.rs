@@ -9,7 +9,8 @@ use super::{EVOLUTIONS, NO_MOVE, NO_SETTING, NO_WORD, OUTPUTS, POWER_UP, STATES,
 use crate::{Answer, Contents, Evolution, Frame};
 use std::ops::Range;
 
-/// Reads a specification file into a table, the states' output words and the evolutions' records.
+/// Reads a specification file, SEQ1 or SEQ2, into a table, the states' output words and the evolutions'
+/// records.
 pub fn read(
     file: &[u8],
     table: &mut [u8],
@@ -43,17 +44,17 @@ fn refused(answer: Answer) -> Contents {
 }
 
 /// A file that passes checks 1 to 3: its sizes, in a frame whose sets are still empty, and its bodies.
-struct Layout<'a> {
+pub struct Layout<'a> {
     file: &'a [u8],
-    frame: Frame,
+    pub frame: Frame,
     outputs: usize,
     evolutions: usize,
-    bodies: Bodies,
+    pub bodies: Bodies,
 }
 
 impl<'a> Layout<'a> {
     /// Checks 1 to 3; the lengths are those of table, words and records.
-    fn of(file: &'a [u8], lengths: (usize, usize, usize)) -> Result<Self, Answer> {
+    pub fn of(file: &'a [u8], lengths: (usize, usize, usize)) -> Result<Self, Answer> {
         let bodies = Bodies::of(file).ok_or(Answer::refused(1, 0))?;
         let size = |index: usize| usize::from(file[bodies.sizes.start + index]);
         let (inputs, states, initial) = (size(0), size(2), size(3));
@@ -82,18 +83,28 @@ impl<'a> Layout<'a> {
         self.frame.fits()
             && (1..=OUTPUTS).contains(&self.outputs)
             && states.len() == RECORD_BYTES * self.frame.states
+            && (0..self.first_text()).all(|state| self.text_length(state) == 0)
             && self.evolutions <= EVOLUTIONS
             && text_lengths.sum::<usize>() == texts.len()
             && self.bodies.optional().all(|text| text.len() <= TEXT)
     }
 
     /// Number of records, states first.
-    fn records(&self) -> usize {
+    pub fn records(&self) -> usize {
         self.frame.states + self.evolutions
     }
 
+    /// The first record that has a condition: states without rest conditions have an empty text.
+    fn first_text(&self) -> usize {
+        if self.bodies.rests {
+            0
+        } else {
+            self.frame.states
+        }
+    }
+
     /// The three bytes of a record.
-    fn record(&self, record: usize) -> &'a [u8] {
+    pub fn record(&self, record: usize) -> &'a [u8] {
         let start = if record < self.frame.states {
             self.bodies.states.start + RECORD_BYTES * record
         } else {
@@ -108,7 +119,7 @@ impl<'a> Layout<'a> {
     }
 
     /// Where each condition stands in the file, those of kinds 5 and 6 last if there are any.
-    fn text_places(&self) -> Vec<Range<usize>> {
+    pub fn text_places(&self) -> Vec<Range<usize>> {
         let mut end = self.bodies.texts.start;
         let place = |record| {
             let start = end;
@@ -138,9 +149,10 @@ impl<'a> Layout<'a> {
         let texts = self.text_places();
         self.copy_records(&texts, words, records);
         self.check_records(words, records)?;
-        refuse_at(5, texts.iter().position(|text| self.holds(text, 0).is_none()))?;
+        let unread = |&record: &usize| self.holds(&texts[record], 0).is_none();
+        refuse_at(5, (self.first_text()..texts.len()).find(unread))?;
         self.check_evolutions(records)?;
-        self.fill_table(&texts[..self.records()], records, table)?;
+        self.fill_table(&texts[self.first_text()..self.records()], records, table)?;
         let machine = Machine { frame: self.whole_frame(), moves: table };
         machine.check_transients()?;
         refuse_at(11, (0..words.len()).find(|&state| words[..state].contains(&words[state])))?;
@@ -215,6 +227,7 @@ impl<'a> Layout<'a> {
                 match (holding.next(), holding.next()) {
                     (Some(_), Some(_)) => return Err(Answer::refused(8, couple)),
                     (Some(rule), None) => table[couple] = rule.target,
+                    (None, _) if !self.bodies.rests => table[couple] = state as u8,
                     (None, _) => without = without.or(Some(couple)),
                 }
             }
@@ -237,13 +250,13 @@ struct Rule {
     target: u8,
 }
 
-/// The rest condition of a state, then its evolutions.
+/// The rest condition of a state, if the texts begin with rest conditions, then its evolutions.
 fn rules_of(state: usize, texts: &[Range<usize>], records: &[Evolution]) -> Vec<Rule> {
     let (rests, evolutions) = texts.split_at(texts.len() - records.len());
-    let rest = Rule { text: rests[state].clone(), target: state as u8 };
+    let rest = rests.get(state).map(|text| Rule { text: text.clone(), target: state as u8 });
     let leaving = records.iter().zip(evolutions).filter(|(it, _)| usize::from(it.source) == state);
     let leaving = leaving.map(|(it, text)| Rule { text: text.clone(), target: it.target });
-    std::iter::once(rest).chain(leaving).collect()
+    rest.into_iter().chain(leaving).collect()
 }
 
 /// The first state that no sequence of settings reaches from the initial one.

@@ -54,7 +54,9 @@ impl Read {
 
     fn any(random: &mut Random) -> Read {
         loop {
-            if let Some(read) = Read::of(settled_file(random).bytes()) {
+            let file = settled_file(random);
+            let file = if random.once_in(2) { file.without_rests() } else { file };
+            if let Some(read) = Read::of(file.bytes()) {
                 return read;
             }
         }

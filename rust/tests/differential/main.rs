@@ -10,6 +10,7 @@ mod log;
 mod multi;
 mod optional;
 mod read;
+mod rests;
 mod shorten;
 mod sound;
 mod tables;

@@ -5,7 +5,7 @@ use super::read::{read_into, MOST};
 use mundrefol::examples::lamp;
 use mundrefol::file::{with_contents, File};
 use mundrefol::generate::{all_lists, padded, Random};
-use mundrefol::plain::TEXT;
+use mundrefol::plain::{SEQ1, SEQ2, TEXT};
 use mundrefol::{Answer, Contents};
 
 /// Which of kinds 5 and 6 a file has, where it is read as without 5 and with 6 `1`.
@@ -18,16 +18,17 @@ const BY_6_AFTER_5: &str = "by kind 6 after kind 5";
 const BY_BOTH: &str = "by kinds 5 and 6 together";
 const BY_POWER_UP: &str = "for want of kind 6";
 
-/// Every number with each of the kinds, and those that the kinds are the cause of.
-pub fn answers() -> Vec<(usize, &'static str)> {
-    let there = (0..=13).flat_map(|number| THERE.map(|kinds| (number, kinds)));
+/// Each of the numbers with each of the kinds, and those that the kinds are the cause of.
+pub fn answers(numbers: impl Iterator<Item = usize>) -> Vec<(usize, &'static str)> {
+    let there = numbers.flat_map(|number| THERE.map(|kinds| (number, kinds)));
     let long = [BY_5, BY_6].map(|cause| (2, cause));
     let unread = [BY_5, BY_6, BY_6_AFTER_5].map(|cause| (5, cause));
     let no_start = [BY_5, BY_6, BY_BOTH, BY_POWER_UP].map(|cause| (13, cause));
     there.chain(long).chain(unread).chain(no_start).collect()
 }
 
-fn two(file: &[u8], at: usize) -> usize {
+/// The number in two bytes of a file.
+pub fn two(file: &[u8], at: usize) -> usize {
     usize::from(u16::from_le_bytes([file[at], file[at + 1]]))
 }
 
@@ -46,14 +47,14 @@ fn bodies_of(file: &[u8]) -> Vec<(u8, Vec<u8>)> {
     (0..usize::from(file[4])).map(|entry| body(5 + 5 * entry)).collect()
 }
 
-/// The bodies of a file without its kind 5, and with kind 6 `1`, or one of these kinds as it is.
-fn altered(bodies: &[(u8, Vec<u8>)], kept: Option<u8>) -> Vec<u8> {
+/// The file of these bodies without kind 5, and with kind 6 `1`, or one of these kinds as it is.
+fn altered(mark: [u8; 4], bodies: &[(u8, Vec<u8>)], kept: Option<u8>) -> Vec<u8> {
     let stays = |kind: u8| kind < 5 || kept == Some(kind);
     let mut bodies: Vec<_> = bodies.iter().filter(|body| stays(body.0)).cloned().collect();
     if kept != Some(6) {
         bodies.push((6, b"1".to_vec()));
     }
-    with_contents(&bodies)
+    with_contents(mark, &bodies)
 }
 
 /// The part that kinds 5 and 6 have in the answer of reading a file. Only 2, 5 and 13 may be other than
@@ -70,7 +71,8 @@ pub fn part(
         return there;
     }
     let bodies = bodies_of(file);
-    let mut with = |kept| read(&altered(&bodies, kept));
+    let mark = *file.first_chunk().expect("a mark");
+    let mut with = |kept| read(&altered(mark, &bodies, kept));
     let without = with(None);
     if answer == without.answer {
         assert_eq!(contents.character, without.character);
@@ -125,14 +127,19 @@ fn lamps() -> [File; 4] {
     [lamp(), lamp().never("a"), lamp().starts("1"), lamp().never("a").starts("1")]
 }
 
+/// The same with rest conditions and without.
+fn lamps_of_both_forms() -> impl Iterator<Item = File> {
+    lamps().into_iter().chain(lamps().map(File::without_rests))
+}
+
 /// Of all lists of up to six kinds, and of all rising ones, four are contents.
-#[test]
-fn every_list_of_kinds() {
-    let bodies = lamp().never("a").starts("1").bodies();
+fn try_every_list_of_kinds(lamp: File) {
+    let mark = lamp.mark;
+    let bodies = lamp.never("a").starts("1").bodies();
     let number = |kinds: &[u8]| {
         let body = |kind: u8| bodies.iter().find(|body| body.0 == kind);
         let listed = |&kind: &u8| (kind, body(kind).map_or(Vec::new(), |body| body.1.clone()));
-        number_of(&with_contents(&kinds.iter().map(listed).collect::<Vec<_>>()))
+        number_of(&with_contents(mark, &kinds.iter().map(listed).collect::<Vec<_>>()))
     };
     let right = lamps().map(|file| file.bodies().iter().map(|body| body.0).collect::<Vec<_>>());
     let rising = (0..1usize << 9)
@@ -142,18 +149,29 @@ fn every_list_of_kinds() {
     }
 }
 
-/// Every other byte in the contents, at every place: refused by 1, unless it makes kind 5 a kind 6 or
-/// the other way round.
+#[test]
+fn every_list_of_kinds() {
+    try_every_list_of_kinds(lamp());
+}
+
+#[test]
+fn every_list_of_kinds_without_rests() {
+    try_every_list_of_kinds(lamp().without_rests());
+}
+
+/// Every other byte in the contents, at every place: refused by 1, unless it makes kind 5 a kind 6, or
+/// SEQ1 SEQ2, or the other way round.
 #[test]
 fn every_byte_of_the_contents() {
-    for mut file in lamps().map(|file| file.bytes()) {
+    for mut file in lamps_of_both_forms().map(|file| file.bytes()) {
         assert_eq!(number_of(&file), 0);
         for at in 0..two(&file, 6) {
             let right = file[at];
             for byte in (0..=u8::MAX).filter(|&byte| byte != right) {
                 file[at] = byte;
                 let other_kind = file[4] == 5 && at == 25 && [5, 6].contains(&byte);
-                assert_eq!(number_of(&file) != 1, other_kind, "{byte} at {at}");
+                let other_mark = at == 3 && [SEQ1[3], SEQ2[3]].contains(&byte);
+                assert_eq!(number_of(&file) != 1, other_kind || other_mark, "{byte} at {at}");
             }
             file[at] = right;
         }
@@ -163,7 +181,7 @@ fn every_byte_of_the_contents() {
 /// A count with the offsets of another: bodies from 5 + 5 × count on, and from nowhere else.
 #[test]
 fn every_count_and_first_offset() {
-    for file in lamps().map(|file| file.bytes()) {
+    for file in lamps_of_both_forms().map(|file| file.bytes()) {
         let count = usize::from(file[4]);
         for first in (0..count).chain(count + 1..60) {
             let mut moved = file.clone();
@@ -178,9 +196,12 @@ fn every_count_and_first_offset() {
     }
 }
 
+/// The lamp with a text at one place.
+type With = fn(&str) -> File;
+
 /// The lamp with each text as one of its conditions.
 #[track_caller]
-fn assert_answers(with: fn(&str) -> File, texts: &[&str], answer: Answer, character: usize) {
+fn assert_answers(with: With, texts: &[&str], answer: Answer, character: usize) {
     for text in texts {
         let read = read_from(&with(text).bytes(), MOST);
         assert_eq!((read.answer, read.character), (answer, character), "{text}");
@@ -194,7 +215,7 @@ fn conditions_of_kinds_5_and_6() {
     let at_0 = ["1", "!a", "a+!a", &padded("1".into(), TEXT)];
     let unread = ["", "b", &padded("A".into(), TEXT)];
     let long = [&padded("!a".into(), TEXT + 1)[..], &"a".repeat(300), &"(".repeat(60_000)];
-    let kinds: [(fn(&str) -> File, usize, bool); 3] = [
+    let kinds: [(With, usize, bool); 3] = [
         (|text| lamp().never(text), 4, false),
         (|text| lamp().starts(text), 4, true),
         (|text| lamp().never("a").starts(text), 5, true),

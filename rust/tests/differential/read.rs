@@ -8,14 +8,14 @@ use mundrefol::file::File;
 use mundrefol::generate::{damaged, largest_file, padded};
 use mundrefol::generate::{random_bytes, random_file, settled_file, Random};
 use mundrefol::plain::{COUPLES, EVOLUTIONS, FILE, INPUTS, STATES, TEXT};
-use mundrefol::{plain, Contents};
+use mundrefol::{plain, Contents, Evolution};
 
 const READ: usize = 24_000;
 
 /// Every number is met by files with and without kinds 5 and 6, 2, 5 and 13 also on account of them.
 #[test]
 fn read() {
-    try_cases("read", READ, &optional::answers(), |random| {
+    try_cases("read", READ, &optional::answers(0..=13), |random| {
         let file = match random.below(12) {
             0 => random_bytes(random),
             1 => random_file(random).bytes(),
@@ -82,7 +82,9 @@ fn asked_lengths(file: &[u8]) -> (usize, usize, usize) {
     }
 }
 
-fn read_both(random: &mut Random, file: &[u8]) -> (usize, &'static str) {
+/// Reads a file by both into buffers around the needed lengths: the number, and the part that kinds 5
+/// and 6 have in it.
+pub fn read_both(random: &mut Random, file: &[u8]) -> (usize, &'static str) {
     let (couples, states, evolutions) = asked_lengths(file);
     let lengths = (length(random, couples), length(random, states), length(random, evolutions));
     let contents = read_into(random, file, lengths);
@@ -90,8 +92,11 @@ fn read_both(random: &mut Random, file: &[u8]) -> (usize, &'static str) {
     (contents.answer.number, optional::part(file, contents, &mut without))
 }
 
+/// What reading a file gives: the contents, and every element of every buffer.
+pub type Out = (Contents, Vec<u8>, Vec<u16>, Vec<Evolution>);
+
 /// Reads a file by both into buffers of these lengths.
-pub fn read_into(random: &mut Random, file: &[u8], lengths: (usize, usize, usize)) -> Contents {
+pub fn read_to(random: &mut Random, file: &[u8], lengths: (usize, usize, usize)) -> Out {
     let mut table = junk_bytes(random, lengths.0);
     let mut words = junk_words(random, lengths.1);
     let mut records = junk_records(random, lengths.2);
@@ -103,5 +108,10 @@ pub fn read_into(random: &mut Random, file: &[u8], lengths: (usize, usize, usize
     assert_same("table", &table, &plain_table);
     assert_same("words", &words, &plain_words);
     assert_same("records", &records, &plain_records);
-    contents
+    (contents, table, words, records)
+}
+
+/// The contents alone.
+pub fn read_into(random: &mut Random, file: &[u8], lengths: (usize, usize, usize)) -> Contents {
+    read_to(random, file, lengths).0
 }

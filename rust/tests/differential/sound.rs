@@ -135,7 +135,7 @@ fn refused_updates() {
 /// With 32 differences a count that is off by one is refused, with 33 it is taken as it is.
 #[test]
 fn off_by_one() {
-    let outputs: Vec<u16> = (0..33).map(|it| 1 << it % 16 | 1 << (it + 5) % 16).collect();
+    let outputs: Vec<u16> = (0..33).map(|it| 1 << (it % 16) | 1 << ((it + 5) % 16)).collect();
     let (last, more) = (noted(&outputs[..32]), noted(&outputs));
     for output in 0..OUTPUTS {
         assert_full(last, output);

@@ -85,11 +85,14 @@ fn fault(text: &[u8], character: usize, inputs: usize) -> Fault {
     }
 }
 
-/// A sound file, and a record of it of the kind.
+/// A sound file, of either form if the record is not a state, and a record of it of the kind.
 fn file_with(random: &mut Random, kind: usize) -> (File, usize) {
     let mut file = settled_file(random);
     while file.evolutions.is_empty() {
         file = settled_file(random);
+    }
+    if kind > 0 && random.once_in(2) {
+        file = file.without_rests();
     }
     let (states, evolutions) = (file.states.len(), file.evolutions.len());
     match kind {
@@ -140,29 +143,36 @@ fn long_and_unread() {
 fn every_short_text() {
     let random = &mut Random::new(cases::seed());
     for text in (0..=5).flat_map(|length| all_texts(b"!().+01ab ", length)) {
-        read_into(random, &lamp().bytes_with(2, &text), (4, 2, 2));
+        for lamp in [lamp(), lamp().without_rests()] {
+            read_into(random, &lamp.bytes_with(2, &text), (4, 2, 2));
+        }
     }
 }
 
-/// Every byte in place of each of a condition's, and before each, in each sort of record.
-#[test]
-fn every_byte_at_every_place() {
+/// Every byte in place of each of a condition's, and before each.
+fn try_every_byte(file: &File, record: usize) {
     let random = &mut Random::new(cases::seed());
     let text = b"!a.(b+0.!(1))";
-    for record in [0, 2, 4, 5] {
-        for at in 0..text.len() {
-            for byte in 0..=u8::MAX {
-                for after in [at, at + 1] {
-                    let text = [&text[..at], &[byte], &text[after..]].concat();
-                    let file = File { inputs: 2, ..lamp() }.never("a").starts("1");
-                    let Contents { answer, character, .. } =
-                        read_into(random, &file.bytes_with(record, &text), MOST);
-                    if answer.number == 5 {
-                        assert_eq!(answer.place, record);
-                        fault(&text, character, 2);
-                    }
+    for at in 0..text.len() {
+        for byte in 0..=u8::MAX {
+            for after in [at, at + 1] {
+                let text = [&text[..at], &[byte], &text[after..]].concat();
+                let Contents { answer, character, .. } =
+                    read_into(random, &file.clone().bytes_with(record, &text), MOST);
+                if answer.number == 5 {
+                    assert_eq!(answer.place, record);
+                    fault(&text, character, 2);
                 }
             }
         }
     }
+}
+
+/// In each sort of record, of either form.
+#[test]
+fn every_byte_at_every_place() {
+    let file = File { inputs: 2, ..lamp() }.never("a").starts("1");
+    [0, 2, 4, 5].into_iter().for_each(|record| try_every_byte(&file, record));
+    let file = file.without_rests();
+    [2, 4, 5].into_iter().for_each(|record| try_every_byte(&file, record));
 }

@@ -5,13 +5,14 @@ use mundrefol::examples;
 use std::process::Command;
 
 const CONTENTS_WRONG: &str =
-    "1: the file is too long or too short, or its mark, contents or end are wrong";
+    "1: the file is too long or too short, or its mark (SEQ1 or SEQ2), contents or end are wrong";
 
 /// What the script says of each refused example: the refusal's number, then its words.
-const EXPLAINED: [(&str, &str); 31] = [
+const EXPLAINED: [(&str, &str); 35] = [
     ("refused-01-kind-4-twice", CONTENTS_WRONG),
     ("refused-01-kind-6-before-5", CONTENTS_WRONG),
     ("refused-01-kinds-1-2-3-5", CONTENTS_WRONG),
+    ("refused-01-seq3", CONTENTS_WRONG),
     ("refused-01-seven-entries", CONTENTS_WRONG),
     ("refused-01-wrong-mark", CONTENTS_WRONG),
     (
@@ -30,6 +31,12 @@ const EXPLAINED: [(&str, &str); 31] = [
         "refused-02-nine-inputs",
         "2: a size is outside its range, or the sizes do not agree with the bodies: \
          inputs 9, outputs 1, states 2, initial state 0",
+    ),
+    (
+        "refused-02-rest-length",
+        "2: a size is outside its range, or the sizes do not agree with the bodies: \
+         inputs 1, outputs 1, states 2, initial state 0; \
+         state 1 has the length 1, but a SEQ2 file has no rest conditions",
     ),
     (
         "refused-04-output-bit",
@@ -87,11 +94,18 @@ const EXPLAINED: [(&str, &str); 31] = [
     !a+
        ^ the condition stops here; a factor must follow",
     ),
+    (
+        "refused-05-without-rests",
+        "5: evolution 1, from state 0 to 2, does not read at character 9
+    !c.(b+!d,a)
+            ^ only +, . or ) can stand here",
+    ),
     ("refused-06-own-source", r#"6: evolution 2, from state 1 to 1, leads to its own source: "a""#),
     (
         "refused-07-same-states",
         r#"7: evolution 2, from state 0 to 1, has the source and target of evolution 0: "a""#,
     ),
+    ("refused-08-two-evolutions", "8: two evolutions hold for state 0 at setting 0 (no input on)"),
     ("refused-08-two-rules", "8: two rules hold for state 0 at setting 1 (a on)"),
     ("refused-09-no-rule", "9: no rule holds for state 0 at setting 1 (a on)"),
     (

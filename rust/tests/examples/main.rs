@@ -7,8 +7,10 @@ mod explained;
 
 use cases::try_cases;
 use mundrefol::file::{File, Leaving, State};
-use mundrefol::generate::{damaged, largest_file, settled_file};
-use mundrefol::plain::{lines, COUPLES, EVOLUTIONS, FILE, INPUTS, LIST, OUTPUTS, PLAN, STATES};
+use mundrefol::generate::settled_file;
+use mundrefol::generate::{damaged, damaged_without_rests, largest_file, largest_without_rests};
+use mundrefol::plain::{lines, with_rests, COUPLES, EVOLUTIONS, FILE, INPUTS, LIST, OUTPUTS};
+use mundrefol::plain::{PLAN, STATES};
 use mundrefol::{examples, plain, Evolution};
 use std::collections::BTreeSet;
 use std::fs;
@@ -114,6 +116,18 @@ RUN 3 0 1 0
     assert_text("lamp", &in_folder("lamp.sheet"), sheet.as_bytes());
 }
 
+#[test]
+fn sheets_without_rest_conditions_are_the_same() {
+    for (without, with) in [
+        ("cutter-without-rests", "cutter-at-the-top"),
+        ("gate-without-rests", "gate"),
+        ("lamp-without-rests", "lamp"),
+    ] {
+        let sheet = |name: &str| in_folder(&format!("{name}.sheet"));
+        assert_text(without, &sheet(without), &sheet(with));
+    }
+}
+
 /// After the plan, the gate's list: from setting 8 to 0, and on to each that single changes do not reach.
 #[test]
 fn gate_sheet_ends_with_its_list() {
@@ -185,7 +199,32 @@ fn the_program_prints_the_sheets_of_generated_files() {
     });
 }
 
-/// With a stack of 1 MiB: every example, and the largest file. With a quarter of that it fails, so the
+/// Of files without rest conditions, and of the SEQ1 files with these written out.
+#[test]
+fn the_program_prints_the_same_sheet_with_rest_conditions() {
+    try_cases("sheet without rests", 150, &["alone", "sheet", "refusal"], |random| {
+        let sound = random.once_in(2);
+        let file = if sound {
+            settled_file(random).without_rests().bytes()
+        } else {
+            damaged_without_rests(random)
+        };
+        let sheet = plain::sheet(&file);
+        assert_text("without", &printed(None, &file), &sheet);
+        let with = with_rests(&file).ok().filter(|_| !sheet.starts_with(b"REFUSED 5 "));
+        let Some(with) = with else {
+            return "alone";
+        };
+        assert_text("with", &printed(None, &with), &sheet);
+        if sheet.starts_with(b"REFUSED") {
+            "refusal"
+        } else {
+            "sheet"
+        }
+    });
+}
+
+/// With a stack of 1 MiB: every example, and the largest files. With a quarter of that it fails, so the
 /// limit is felt.
 #[test]
 fn the_program_needs_little_stack() {
@@ -194,9 +233,10 @@ fn the_program_needs_little_stack() {
         let sheet = in_folder(&format!("{}.sheet", example.name));
         assert_text(example.name, &printed(little, &example.bytes), &sheet);
     }
-    let largest = largest_file(FILE).bytes();
-    assert_text("largest", &printed(little, &largest), &plain::sheet(&largest));
-    assert!(!ended(program(Some(256)), &largest).status.success());
+    for largest in [largest_file(FILE), largest_without_rests(FILE)].map(|file| file.bytes()) {
+        assert_text("largest", &printed(little, &largest), &plain::sheet(&largest));
+        assert!(!ended(program(Some(256)), &largest).status.success());
+    }
 }
 
 /// A file over 65,535 bytes is refused by 1, however long.

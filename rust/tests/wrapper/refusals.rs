@@ -3,7 +3,8 @@
 use super::cases::try_cases;
 use super::{root, sheet, status, words};
 use mundrefol::file::File;
-use mundrefol::generate::damaged;
+use mundrefol::generate::{damaged, damaged_without_rests};
+use mundrefol::plain::SEQ2;
 use mundrefol::{examples, plain};
 use std::fs;
 use std::path::PathBuf;
@@ -87,18 +88,23 @@ fn assert_unread(inputs: u8, marked: &str, wrong: &str) {
     let (before, after) = marked.split_once('^').expect("a caret");
     let (shown, blanks) = (format!("{before}{after}"), " ".repeat(before.len()));
     let character = before.len() + 1;
-    let bare = File::new(inputs, 1, &[(0, "!a"), (1, "1")], &[(0, 1, "a")]);
-    let with = bare.clone().never("a+0");
-    let (alone, both) = (bare.clone().starts("1"), with.clone().starts("1"));
+    let neither = File::new(inputs, 1, &[(0, "!a"), (1, "1")], &[(0, 1, "a")]);
+    let with = neither.clone().never("a+0");
+    let (alone, both) = (neither.clone().starts("1"), with.clone().starts("1"));
+    let [no_rests, both_without] = [&neither, &both].map(|file| file.clone().without_rests());
     for (file, record, name) in [
-        (&bare, 0, "the rest condition of state 0"),
+        (&neither, 0, "the rest condition of state 0"),
         (&with, 0, "the rest condition of state 0"),
-        (&bare, 2, "evolution 0, from state 0 to 1,"),
+        (&neither, 2, "evolution 0, from state 0 to 1,"),
         (&with, 2, "evolution 0, from state 0 to 1,"),
         (&with, 3, NEVER),
         (&both, 3, NEVER),
         (&alone, 3, STARTS),
         (&both, 4, STARTS),
+        (&no_rests, 2, "evolution 0, from state 0 to 1,"),
+        (&both_without, 2, "evolution 0, from state 0 to 1,"),
+        (&both_without, 3, NEVER),
+        (&both_without, 4, STARTS),
     ] {
         let said = explained(&file.clone().bytes_with(record, &bytes_of(&shown)));
         let first = format!("5: {name} does not read at character {character}");
@@ -142,15 +148,39 @@ fn words_of_a_character() {
     }
 }
 
+/// What is said of sizes.
+fn sizes(inputs: u8) -> String {
+    format!(
+        "2: a size is outside its range, or the sizes do not agree with the bodies: \
+         inputs {inputs}, outputs 1, states 2, initial state 0"
+    )
+}
+
+/// The first state with a length, where states have no rest conditions.
+#[test]
+fn words_of_files_without_rests() {
+    let lamp = |inputs: u8| File { inputs, ..examples::lamp() };
+    let with = |mut file: File, state: usize, text: &str| {
+        *file.condition_mut(state) = text.to_string();
+        explained(&file.bytes())
+    };
+    let without = |inputs: u8| lamp(inputs).without_rests();
+    let has = |state: usize, length: usize| {
+        format!("; state {state} has the length {length}, but a SEQ2 file has no rest conditions")
+    };
+    assert_eq!(with(without(1), 1, "1+1"), sizes(1) + &has(1, 3));
+    assert_eq!(with(without(9), 0, &"a".repeat(255)), sizes(9) + &has(0, 255));
+    assert_eq!(explained(&File { mark: SEQ2, ..lamp(1) }.bytes()), sizes(1) + &has(0, 2));
+    assert_eq!(explained(&without(9).bytes()), sizes(9));
+    let both = File::new(1, 2, &[(0, "!a"), (1, "1"), (2, "1")], &[(0, 1, "a"), (0, 2, "a")]);
+    let hold = "hold for state 0 at setting 1 (a on)";
+    assert_eq!(explained(&both.bytes()), format!("8: two rules {hold}"));
+    assert_eq!(explained(&both.without_rests().bytes()), format!("8: two evolutions {hold}"));
+}
+
 /// Sizes, with the length of kinds 5 and 6 where that is over 255.
 #[test]
 fn words_of_long_conditions() {
-    let sizes = |inputs: u8| {
-        format!(
-            "2: a size is outside its range, or the sizes do not agree with the bodies: \
-             inputs {inputs}, outputs 1, states 2, initial state 0"
-        )
-    };
     let lamp = |inputs: u8| File { inputs, ..examples::lamp() };
     let [right, long] = [255, 300].map(|bytes| "a".repeat(bytes));
     let over = |name: &str| format!("; {name} has 300 bytes, over 255");
@@ -188,7 +218,8 @@ fn damaged_files_are_explained() {
     let path = PathBuf::from(env!("CARGO_TARGET_TMPDIR")).join("damaged");
     let path = path.to_str().expect("the path is text");
     try_cases("script", 250, &[0, 1], |random| {
-        let file = damaged(random);
+        let rests = random.once_in(2);
+        let file = if rests { damaged(random) } else { damaged_without_rests(random) };
         let right = plain::sheet(&file);
         fs::write(path, &file).expect("the file is written");
         let output = sheet(&root(), &[path]);

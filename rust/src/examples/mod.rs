@@ -1,8 +1,12 @@
 //! The specification files of the folder `examples/`, as readable descriptions.
 
+mod rests;
+
+pub use rests::table_3;
+
 use crate::file::{with_contents, File, Leaving, State};
 use crate::generate::{nested, padded, sum_of_products, Product};
-use crate::plain::{INPUTS, PARENTHESES, STATES, TEXT};
+use crate::plain::{INPUTS, PARENTHESES, SEQ1, STATES, TEXT};
 
 /// An example: its name in the folder, and its bytes.
 pub struct Example {
@@ -19,6 +23,7 @@ pub fn all() -> Vec<Example> {
     let mut all = sound();
     all.extend(refused_for_bytes());
     all.extend(refused_for_rules());
+    all.extend(rests::without_rests());
     all.sort_by_key(|example| example.name);
     all
 }
@@ -223,7 +228,7 @@ fn with_condition(mut file: File, record: usize, text: &str) -> File {
 /// The bodies of a file under other kinds.
 fn with_kinds(file: File, kinds: &[u8]) -> Vec<u8> {
     let bodies = kinds.iter().zip(file.bodies()).map(|(&kind, (_, body))| (kind, body));
-    with_contents(&bodies.collect::<Vec<_>>())
+    with_contents(file.mark, &bodies.collect::<Vec<_>>())
 }
 
 /// The lamp with kind 6 `1` before kind 5 `0`.
@@ -235,7 +240,7 @@ fn kind_6_before_5() -> Vec<u8> {
 fn seven_entries() -> Vec<u8> {
     let mut bodies = lamp().never("0").starts("1").bodies();
     bodies.push((7, b"1".to_vec()));
-    with_contents(&bodies)
+    with_contents(SEQ1, &bodies)
 }
 
 /// The lamp under the mark of another kind of file.
