@@ -2,21 +2,22 @@
 -- at each setting, since its rest is where no evolution does; so 9 cannot occur, and 8 is of two evolutions.
 use mathlib.Core.Path.{_≡_, sym, ap, _∙_}
 use mathlib.Core.Bool.{Bool, true, false}
+use mathlib.Core.Logic.{⊎-elim}
 use mathlib.Core.List.{List}
 use Prim.Native.Char.{code}
 use Prim.Native.Nat.{ℕ, _≤_, _<_}
 use native.Mathlib.Omega.{arith}
-use native.Mathlib.Decide.{decLt}
 use lib.ListN.{take}
 use lib.Dec.{eqb}
 use Rattle.verdict.specs.Checks.{None}
+use Rattle.machine.proofs.Order.{below-or}
 use Rattle.specification.specs.File.{mark, restsOf}
-use Rattle.specification.specs.Records.{sizesOf, source, Evolves}
+use Rattle.specification.specs.Records.{sizesOf, Evolves}
 use Rattle.specification.specs.Rules.{textOf, Idle, HoldsAt, by-text, by-rest, Fires, Two, NoRule}
 use Rattle.condition.specs.Condition.{Holds}
 use Rattle.specification.specs.declared.records.Sizes.{Sizes}
 use Rattle.specification.proofs.Laws.{prefix-at}
-use Rattle.specification.proofs.Firing.{rule-state, rule-evolution}
+use Rattle.specification.proofs.Firing.{rule-state, rule-evolution, rule-other}
 
 -- a file that has the mark of a form is of that form
 module _ (file : List ℕ) where
@@ -68,15 +69,11 @@ never-no-rule file z m e =
 
 -- two rules that hold are two evolutions, since the state's own record holds where none does
 pub two-evolve : {file : List ℕ} {z : Sizes} {s v : ℕ} → z .worded ≡ z .states → (t : Two (Fires file z s v)) → Evolves z (t .low) × Evolves z (t .high)
-two-evolve {file} {z} {s} {v} e t = by (decLt (t .low) (z .states)) (decLt (t .high) (z .states))
-  where
-    evolves : z .states ≤ t .low → Evolves z (t .low) × Evolves z (t .high)
-    evolves h = (record { after = h; below = t .one .below }, record { after = omega (arith, t .differ); below = t .other .below })
-
-    by : Dec (t .low < z .states) → Dec (t .high < z .states) → Evolves z (t .low) × Evolves z (t .high)
-    by (no n) d = evolves (omega arith)
-    by (yes h) (yes k) = absurd (omega (arith, t .differ, rule-state file z (t .low) h, t .one .rule, rule-state file z (t .high) k, t .other .rule))
-    by (yes h) (no n) =
-        let k : z .states ≤ t .high = omega arith in
-        let from : source file z (t .high) ≡ t .low = sym (rule-evolution file z (t .high) k) ∙ t .other .rule ∙ sym (t .one .rule) ∙ rule-state file z (t .low) h in
-        absurd (of-rest (omega arith) (t .one .holds) .none (t .high) (record { after = k; below = t .other .below }) from (of-text (omega arith) (t .other .holds)))
+two-evolve {file} {z} e t = ⊎-elim
+    (λ h.
+    let own = rule-state file z (t .low) h in
+    let is = t .other .rule ∙ sym (t .one .rule) ∙ own in
+    let k = rule-other file z (t .high) is (λ q. omega (arith, t .differ)) in
+    absurd (of-rest (omega arith) (t .one .holds) .none (t .high) (record { after = k; below = t .other .below }) (sym (rule-evolution file z (t .high) k) ∙ is) (of-text (omega arith) (t .other .holds))))
+    (λ h. (record { after = h; below = t .one .below }, record { after = omega (arith, t .differ); below = t .other .below }))
+    (below-or (t .low) (z .states))

@@ -24,7 +24,7 @@ use Rattle.specification.specs.Records.{records, source, Own}
 use Rattle.specification.specs.Rules.{textOf, Idle, HoldsAt, by-text, by-rest, ruleOf, leadsTo, Fires, Two, TwoRules}
 use Rattle.specification.specs.inner.Private.{Laid, Follows, Linked, firstRule, restOf, Noted}
 use Rattle.specification.specs.declared.records.Sizes.{Sizes}
-use Rattle.specification.proofs.Firing.{rule-state, rule-evolution, leads-state, leads-evolution}
+use Rattle.specification.proofs.Firing.{rule-state, rule-evolution, rule-other, leads-state, leads-evolution}
 use Rattle.specification.proofs.Forms.{of-text, of-rest}
 
 -- of the numbers below n at most one is an F, and `to` is where it leads, or `rest`
@@ -77,9 +77,7 @@ pub record Begins (file : List ℕ) (z : Sizes) (s r : ℕ) : Type 0 where
 module _ {file : List ℕ} {z : Sizes} {s : ℕ} (h : s < z .states) where
   -- the first link of a state leads past the states
   past-states : {n : ℕ} → Follows file z s n → z .states ≤ n
-  past-states {n} f =
-      let g : n < z .states → ⊥ = λ l. let e = sym (rule-state file z n l) ∙ f .same (omega arith) ∙ rule-state file z s h in omega (arith, f .after) in
-      omega arith
+  past-states {n} f = ⊎-elim (λ l. rule-other file z n (f .same l ∙ rule-state file z s h) (λ e. omega (arith, f .after))) (λ k. omega arith) (below-or n (records z))
 
   pub begins : {next : List ℕ} → z .worded ≤ z .states → Linked file z next → Begins file z s (firstRule next (z .worded) s)
   begins {next} few l = ⊎-elim
@@ -114,7 +112,7 @@ two-fire t = record { low = t .low; high = t .high; differ = t .differ; one = fi
 -- a rule that has a condition is an evolution of a state without one
 module _ (file : List ℕ) (z : Sizes) {s q : ℕ} (k : s < z .worded) (is : ruleOf file z q ≡ s) (w : z .worded ≤ q) where
   evolution : z .states ≤ q
-  evolution = let own : q < z .states → ⊥ = λ l. let a = sym (rule-state file z q l) ∙ is in omega arith in omega arith
+  evolution = rule-other file z q is (λ e. omega arith)
 
   from : source file z q ≡ s
   from = sym (rule-evolution file z q evolution) ∙ is

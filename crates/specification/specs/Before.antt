@@ -1,6 +1,6 @@
--- Reading a file as document 01 has it. A file with its four kinds has the same answers but for setting 0 as the only start (theorem
--- `as-before`), and one with a kind 6 of the text `1` has its starts (theorem `runs-bare`). It asks for SEQ1, in
--- which a record holds exactly where its condition does (theorem `holds-by-text`). Assumes nothing: these are definitions.
+-- Reading a file as document 01 has it, of SEQ1, in which a record holds exactly where its condition does (theorem `holds-by-text`). A file
+-- with its four kinds has the same answers but for setting 0 as the only start (theorem `as-before`), and one with a kind 6 of the text `1`
+-- has its starts (theorem `runs-bare`). Assumes nothing: these are definitions.
 use mathlib.Core.Path.{_≡_}
 use mathlib.Core.Bool.{true}
 use mathlib.Core.List.{List, _∷_, []}
