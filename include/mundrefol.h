@@ -127,8 +127,7 @@ mundrefol_contents mundrefol_read(const uint8_t *file, size_t file_len, uint8_t 
  * Whether the condition of an evolution holds at a setting. The records are those that reading the
  * file handed on, the evolution is counted among them from 0. A letter is one of a to h and stands
  * for an input below inputs, which is on if its bit of the setting is 1.
- * False beyond the records, where the text is not within the file, where it does not read, and at a
- * number that is no setting: not below 2^inputs, or not below 2^8 where more inputs are told.
+ * False beyond the records, where the text is not within the file, and where it does not read.
  */
 bool mundrefol_evolution_holds(const mundrefol_evolution *records, size_t records_len, size_t evolution,
                                const uint8_t *file, size_t file_len, size_t inputs, size_t setting);

@@ -122,8 +122,7 @@ pub fn read(
     }
 }
 
-/// Whether the condition of an evolution of the records holds at a setting; never at a number that is
-/// no setting of so many inputs.
+/// Whether the condition of an evolution of the records holds at a setting.
 pub fn evolution_holds(
     records: &[Evolution],
     evolution: usize,

@@ -125,7 +125,6 @@ static void check_evolutions(const mundrefol_evolution *records)
     CHECK(!mundrefol_evolution_holds(records, 2, 1, lamp, sizeof lamp, 1, 1));
     CHECK(!mundrefol_evolution_holds(records, 2, 2, lamp, sizeof lamp, 1, 1));
     CHECK(!mundrefol_evolution_holds(records, 2, 1, lamp, sizeof lamp - 1, 1, 0));
-    CHECK(!mundrefol_evolution_holds(records, 2, 1, lamp, sizeof lamp, 1, 2));
 }
 
 static void check_runs(mundrefol_frame frame, const uint8_t *table)

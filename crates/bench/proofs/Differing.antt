@@ -12,7 +12,7 @@ use borrow.Author.Tests.{eqb-true, eqb-false, eq-eqb, not-false, not-true}
 use Rattle.basics.specs.Words.{most_outputs}
 use Rattle.verdict.specs.Below.{sum_to, list_to}
 use Rattle.verdict.proofs.Below.{sum_below, list_at, list_same}
-use Rattle.sets.proofs.Bits.{same_bits}
+use Rattle.sets.proofs.Members.{same_bits}
 use Rattle.bench.specs.declared.Reading.{Reading}
 use Rattle.bench.specs.Readings.{differs, output_of, differs_in, those, times, one_if}
 use Rattle.bench.specs.History.{Fits}

@@ -1,30 +1,28 @@
 -- Document 01's two starred rows on conditions, and document 02's `1`, of the definitions: the tree of each text is given, and what it
--- says computed; a text has one tree.
-use mathlib.Core.Path.{refl, sym, ◌∙◌}
+-- says computed.
+use mathlib.Core.Path.{refl}
+use mathlib.Core.Bool.{true, false}
 use mathlib.Core.List.{[], ◌∷◌}
 use Prim.Native.Char.{code}
 use Prim.Native.Nat.{ℕ}
 use native.Mathlib.Omega.{arith}
 use Rattle.basics.specs.Texts.{letters}
-use Rattle.verdict.proofs.Tests.{true≢false}
 use Rattle.condition.specs.Grammar.{one, more, bang, on, input, text, opened, Below, holds}
-use Rattle.condition.specs.Condition.{Reads, Holds}
-use Rattle.condition.proofs.Says.{told_holds}
+use Rattle.condition.specs.Condition.{Holds, Says}
+use Rattle.condition.specs.declared.Meaning.TheVariants.{Is}
+use Rattle.condition.proofs.Says.{value-says}
 
 -- `a+b.c` at setting 1 (only a on) holds
-pub and_before_or : Holds 3 1 (letters "a+b.c")
+pub and_before_or : Says 3 1 (letters "a+b.c") (Is true)
 unfolding text opened Below holds
-and_before_or = record {
-  reads = record { tree = more (one (input 0)) (one (more (input 1) (one (input 2)))); spelt = refl; nested = omega arith; known = omega arith };
-  true_there = refl;
-}
+and_before_or =
+    value-says (record { tree = more (one (input 0)) (one (more (input 1) (one (input 2)))); spelt = refl; nested = omega arith; known = omega arith }) refl
 
 -- `!a.b` at setting 0 does not hold
-pub not_before_and : Reads 2 (letters "!a.b") × (Holds 2 0 (letters "!a.b") → ⊥)
+pub not_before_and : Says 2 0 (letters "!a.b") (Is false)
 unfolding text opened Below holds
 not_before_and =
-    let x : Reads 2 (letters "!a.b") = record { tree = one (more (bang (input 0)) (one (input 1))); spelt = refl; nested = omega arith; known = omega arith } in
-    (x, λ h. true≢false (sym (told_holds h x) ∙ refl))
+    value-says (record { tree = one (more (bang (input 0)) (one (input 1))); spelt = refl; nested = omega arith; known = omega arith }) refl
 
 -- `1` holds at every setting
 pub one_holds : (n v : ℕ) → Holds n v (code "1" ∷ [])

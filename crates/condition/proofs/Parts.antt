@@ -3,32 +3,36 @@
 use Prim.Native.Nat.{ℕ, suc, ◌+◌, ◌≤◌, ◌<◌}
 use Prim.Native.Char.{code}
 use mathlib.Core.Path.{◌≡◌, refl, sym, ap, subst, ◌∙◌}
-use mathlib.Core.Bool.{Bool, true, false}
+use mathlib.Core.Bool.{Bool, true, false, not, beq}
 use mathlib.Core.List.{List, [], ◌∷◌, ◌++◌, append_assoc, append-nil}
 use native.Mathlib.Omega.{arith}
 use lib.ListN.{length, take, drop, get_or, length-append, length-drop, drop_of_length-le}
 use lib.Seq.{take-append-add, take-append_seam}
-use Rattle.verdict.proofs.Tests.{true≢false}
-use Rattle.sets.specs.Sets.{words, member, MembersOf}
-use Rattle.sets.proofs.Members.{members-same}
 use Rattle.machine.specs.Limits.{most_inputs}
 use Rattle.condition.specs.Grammar.{Level, Join, or, and, factor, joined, part, byte, joins, condition, Tree, off, text, holds, opened, Below}
-use Rattle.condition.specs.inner.Parts.{At, Ends, NotFirst, Reading, Skipped, flipped, FoundTo, Failed, FailedAt, Found}
+use Rattle.condition.specs.inner.Parts.{At, Ends, NotFirst, Reading, Skipped, flipped, Found, reads, stops, FoundTo, Failed, FailedAt}
 use Rattle.condition.specs.declared.Part.{Part}
+use Rattle.condition.specs.declared.Part.TheVariants.{Value, Bad}
 use Rattle.condition.proofs.Trees.{same, close_ends}
 use Rattle.condition.proofs.Lists.{front, at_front, not_front, agree_front, none_same, first_same, ends_same, not_first_same}
 use Rattle.condition.proofs.Readings.{nothing, enclosed, inside, no-single, of_same, before, alone, first, Passed, passed-more}
 
--- what is found, where the answer is known
-module _ {l : Level} {n d : ℕ} {s : List ℕ} {at : ℕ} {p : Part} where
-  pub it-reads : {set : List ℕ} {end : ℕ} → p ≡ record { reads = true; place = end; set = set } → FoundTo l n d s at set end → Found l n d s at p
-  it-reads e x = rw e (record { reads = λ _. x; stops = λ z. absurd (true≢false z) })
+-- what was found, where the answer is known
+module _ {l : Level} {n v d : ℕ} {s : List ℕ} {at : ℕ} where
+  found-value : {b : Bool} {end : ℕ} → Found l n v d s at (Value b end) → FoundTo l n v d s at b end
+  found-value (reads x) = x
 
-  pub it-stops : {place : ℕ} → (p.reads ≡ false) × (p.place ≡ place) → FailedAt l n d s at place → Found l n d s at p
-  it-stops e f = record { reads = λ z. absurd (true≢false (sym z ∙ e.0)); stops = λ _. rw e.1 f }
+  found-bad : {place : ℕ} → Found l n v d s at (Bad place) → FailedAt l n d s at place
+  found-bad (stops x) = x
+
+  pub is-value : {p : Part} {b : Bool} {end : ℕ} → p ≡ Value b end → Found l n v d s at p → FoundTo l n v d s at b end
+  is-value e f = found-value (subst (Found l n v d s at) e f)
+
+  pub is-bad : {p : Part} {place : ℕ} → p ≡ Bad place → Found l n v d s at p → FailedAt l n d s at place
+  is-bad e f = found-bad (subst (Found l n v d s at) e f)
 
 -- where a part that was found ends
-pub span : {l : Level} {n d : ℕ} {s : List ℕ} {at : ℕ} {set : List ℕ} {end : ℕ} (x : FoundTo l n d s at set end) → end ≡ at + length (text x.reading.tree)
+pub span : {l : Level} {n v d : ℕ} {s : List ℕ} {at : ℕ} {b : Bool} {end : ℕ} (x : FoundTo l n v d s at b end) → end ≡ at + length (text x.reading.tree)
 span x = omega (arith, simp (length-append, length-drop) at (ap length x.reading.spelt), x.later, x.within)
 
 -- failing: a list that is equal, one with something before it, and a join whose part fails
@@ -72,8 +76,8 @@ end_fails s at h = fails_here s at (λ w r e x. nothing (none_same w e (drop_of_
 
 -- one character
 module _ {n : ℕ} (s : List ℕ) (at : ℕ) (h : at < length s) where
-  pub single-found : {d : ℕ} {set : List ℕ} (t : Tree factor) → text t ≡ get_or s at 0 ∷ [] → opened t ≡ 0 → Below n t → MembersOf words (λ v. holds v t) set
-      → FoundTo factor n d s at set (at + 1)
+  pub single-found : {v d : ℕ} {b : Bool} (t : Tree factor) → text t ≡ get_or s at 0 ∷ [] → opened t ≡ 0 → Below n t → holds v t ≡ b
+      → FoundTo factor n v d s at b (at + 1)
   single-found t spelt nested known says = record {
     later = omega arith;
     within = omega arith;
@@ -95,25 +99,30 @@ module _ {n : ℕ} (s : List ℕ) (at : ℕ) (h : at < length s) where
       x.tree r (sym (first_same w e (front s at h)).1 ∙ x.spelt) x.known)
 
 -- a factor behind `!`
+not_same : (f b : Bool) → flipped f b ≡ not (beq f b)
+not_same true true = refl
+not_same true false = refl
+not_same false true = refl
+not_same false false = refl
+
 module _ {n d : ℕ} {s : List ℕ} {at from : ℕ} {negates : Bool} (k : Skipped s at negates from) where
-  pub negated-found : {set set' : List ℕ} {end : ℕ} → FoundTo factor n d s from set end → MembersOf words (λ v. flipped negates (member set v)) set'
-      → FoundTo factor n d s at set' end
+  pub negated-found : {v : ℕ} {b : Bool} {end : ℕ} → FoundTo factor n v d s from b end → FoundTo factor n v d s at (not (beq negates b)) end
   unfolding of_same
-  negated-found {end = end} x e =
-      let y = k.wrap n d (drop from s) (drop end s) x.reading in
+  negated-found {v} {b} {end} x =
+      let y = k.wrap n v d (drop from s) (drop end s) x.reading in
       record {
         later = omega (arith, x.later, k.count);
         within = x.within;
         ends = tt;
         reading = of_same k.spelt refl y.0;
-        value = members-same (λ v h. ap (flipped negates) (x.value.each v h) ∙ sym (y.1 v)) e;
+        value = y.1 ∙ ap (flipped negates) x.value ∙ not_same negates b;
       }
 
   pub negated-fails : {place : ℕ} → FailedAt factor n d s from place → FailedAt factor n d s at place
   negated-fails f = record {
     passed = length k.bangs + f.passed;
     count = omega (arith, k.count, f.count);
-    failed = fails_same k.spelt (fails_behind k.bangs (λ u r x. (k.wrap n d u r x).0) (λ u r h x. k.strip n d u r x) f.failed);
+    failed = fails_same k.spelt (fails_behind k.bangs (λ u r x. (k.wrap n 0 d u r x).0) (λ u r h x. k.strip n d u r x) f.failed);
   }
 
 -- a condition in parentheses: closed, failing inside them, not closed, and a parenthesis too many
@@ -122,7 +131,7 @@ module _ {n d : ℕ} {s : List ℕ} {at : ℕ} (here : At s at (code "(")) where
   one-too-many h = fails_here s at (λ w r e x. let y = (inside {d' = 0} (omega arith) (first_same w e (at_front here)).1 x).0 in omega arith)
 
   module _ {d' : ℕ} (h : d ≡ suc d') where
-    pub closed-found : {set : List ℕ} {end : ℕ} → FoundTo condition n d' s (at + 1) set end → At s end (code ")") → FoundTo factor n d s at set (end + 1)
+    pub closed-found : {v : ℕ} {b : Bool} {end : ℕ} → FoundTo condition n v d' s (at + 1) b end → At s end (code ")") → FoundTo factor n v d s at b (end + 1)
     unfolding enclosed of_same holds
     closed-found x close = record {
       later = omega (arith, x.later);
@@ -152,7 +161,7 @@ module _ {n d : ℕ} {s : List ℕ} {at : ℕ} (here : At s at (code "(")) where
           });
         }
 
-    pub unclosed-fails : {set : List ℕ} {end : ℕ} → FoundTo condition n d' s (at + 1) set end → (At s end (code ")") → ⊥) → FailedAt factor n d s at end
+    pub unclosed-fails : {v : ℕ} {b : Bool} {end : ℕ} → FoundTo condition n v d' s (at + 1) b end → (At s end (code ")") → ⊥) → FailedAt factor n d s at end
     unfolding before
     unclosed-fails {end = end} f not-close =
         let x = f.reading in
@@ -178,23 +187,22 @@ ends_both : (j : Join) (r : List ℕ) → Ends (part j) r → NotFirst (byte j) 
 ends_both or r e h = (e, h)
 ends_both and r e h = h
 
-module _ (j : Join) {n d : ℕ} {s : List ℕ} {at from : ℕ} {set : List ℕ} (p : Passed j n d s at from set) where
-  module _ {more set' : List ℕ} {end : ℕ} (x : FoundTo (part j) n d s from more end) (e : MembersOf words (λ v. joins j (member set v) (member more v)) set') where
-    pub join-found : (At s end (byte j) → ⊥) → FoundTo (joined j) n d s at set' end
-    unfolding holds alone of_same
-    join-found ne =
-        let y = p.extend (drop from s) (drop end s) (alone x.reading) in
-        record {
-          later = omega (arith, x.later, p.count);
-          within = x.within;
-          ends = ends_both j (drop end s) x.ends (not_front ne);
-          reading = of_same p.spelt refl y.0;
-          value = members-same (λ v h. ap (joins j (member set v)) (x.value.each v h) ∙ sym (y.1 v h)) e;
-        }
+module _ (j : Join) {n v d : ℕ} {s : List ℕ} {at from : ℕ} {acc : Bool} (p : Passed j n v d s at from acc) where
+  pub join-found : {b : Bool} {end : ℕ} → FoundTo (part j) n v d s from b end → (At s end (byte j) → ⊥) → FoundTo (joined j) n v d s at (joins j acc b) end
+  unfolding holds alone of_same
+  join-found {b} {end} x ne =
+      let y = p.extend (drop from s) (drop end s) (alone x.reading) in
+      record {
+        later = omega (arith, x.later, p.count);
+        within = x.within;
+        ends = ends_both j (drop end s) x.ends (not_front ne);
+        reading = of_same p.spelt refl y.0;
+        value = y.1 ∙ ap (joins j acc) x.value;
+      }
 
-    pub join_more : At s end (byte j) → Passed j n d s at (end + 1) set'
-    unfolding of_same
-    join_more h = passed-more j p (of_same refl (at_front h) x.reading) x.value e (span x)
+  pub join_more : {b : Bool} {end : ℕ} → FoundTo (part j) n v d s from b end → At s end (byte j) → Passed j n v d s at (end + 1) (joins j acc b)
+  unfolding of_same
+  join_more x h = passed-more j p (of_same refl (at_front h) x.reading) x.value (span x)
 
   pub join-fails : {place : ℕ} → FailedAt (part j) n d s from place → FailedAt (joined j) n d s at place
   join-fails f = record {

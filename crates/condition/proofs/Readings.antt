@@ -7,7 +7,6 @@ use mathlib.Core.Bool.{Bool, true, false, not}
 use mathlib.Core.List.{List, [], ◌∷◌, ◌++◌, append_assoc, head-eq_of_cons-eq, tail-eq_of_cons-eq}
 use native.Mathlib.Omega.{arith}
 use lib.ListN.{length, drop, length-append}
-use Rattle.sets.specs.Sets.{words, most_members, member, MembersOf}
 use Rattle.machine.specs.Limits.{most_inputs}
 use Rattle.condition.specs.Grammar.{Level, Join, or, and, factor, joined, part, byte, joins, condition, Tree, one, more, bang, paren, off, on, input, text, opened, Below, holds}
 use Rattle.condition.specs.inner.Parts.{At, Ends, Reading, Skipped, flipped}
@@ -47,7 +46,7 @@ flipped_not false b = refl
 
 module _ {s : List ℕ} {at : ℕ} where
   pub bang-none : Skipped s at false at
-  bang-none = record { bangs = []; count = omega arith; spelt = refl; wrap = λ n d u r x. (x, λ v. refl); strip = λ n d u r x. x }
+  bang-none = record { bangs = []; count = omega arith; spelt = refl; wrap = λ n v d u r x. (x, refl); strip = λ n d u r x. x }
 
   pub bang-more : {end : ℕ} {negates : Bool} → Skipped s at negates end → At s end (code "!") → Skipped s at (not negates) (end + 1)
   unfolding holds banged of_same
@@ -58,9 +57,9 @@ module _ {s : List ℕ} {at : ℕ} where
         bangs = b ++ code "!" ∷ [];
         count = simp length-append (omega (arith, k.count));
         spelt = k.spelt ∙ ap (b ++◌) (at_front here) ∙ sym (snoc (drop (end + 1) s));
-        wrap = λ n d u r x.
-            let y = k.wrap n d (code "!" ∷ u) r (banged x) in
-            (of_same (snoc u) refl y.0, λ v. y.1 v ∙ flipped_not negates (holds v x.tree));
+        wrap = λ n v d u r x.
+            let y = k.wrap n v d (code "!" ∷ u) r (banged x) in
+            (of_same (snoc u) refl y.0, y.1 ∙ flipped_not negates (holds v x.tree));
         strip = λ n d u r x.
             let y = k.strip n d (code "!" ∷ u) r (of_same (sym (snoc u)) refl x) in
             unbang y.tree r y.spelt y.nested y.known;
@@ -149,31 +148,22 @@ joins_assoc and true b c = refl
 joins_assoc and false b c = refl
 
 -- a loop over the parts of a join, from `at` on, stands at `from`, behind the characters `front`: what is read behind them makes a
--- reading with them, which says at each setting what they say, as `set` has it, joined to what it says; and each reading that begins
--- with them is made so
-pub record Passed (j : Join) (n d : ℕ) (s : List ℕ) (at from : ℕ) (set : List ℕ) : Type 0 where
+-- reading with them, which says what they say, `acc`, joined to what it says; and each reading that begins with them is made so
+pub record Passed (j : Join) (n v d : ℕ) (s : List ℕ) (at from : ℕ) (acc : Bool) : Type 0 where
   pub front : List ℕ
   pub count : from ≡ at + length front
   pub spelt : drop at s ≡ front ++ drop from s
-  pub extend : (u r : List ℕ) (x : Reading (joined j) n d u r)
-      → (y : Reading (joined j) n d (front ++ u) r) × ((v : ℕ) → v < most_members → holds v y.tree ≡ joins j (member set v) (holds v x.tree))
+  pub extend : (u r : List ℕ) (x : Reading (joined j) n d u r) → (y : Reading (joined j) n d (front ++ u) r) × (holds v y.tree ≡ joins j acc (holds v x.tree))
   pub split : (u r : List ℕ) → Ends (joined j) r → Reading (joined j) n d (front ++ u) r → Reading (joined j) n d u r
 
-module _ (j : Join) {n d : ℕ} {s : List ℕ} {at : ℕ} where
-  pub passed_none : {set : List ℕ} → MembersOf words (λ v. unit j) set → Passed j n d s at at set
-  passed_none e = record {
-    front = [];
-    count = omega arith;
-    spelt = refl;
-    extend = λ u r x. (x, λ v h. joins_unit j (holds v x.tree) ∙ ap (λ (c : Bool). joins j c (holds v x.tree)) (sym (e.each v h)));
-    split = λ u r h x. x;
-  }
+module _ (j : Join) {n v d : ℕ} {s : List ℕ} {at : ℕ} where
+  pub passed_none : Passed j n v d s at at (unit j)
+  passed_none = record { front = []; count = omega arith; spelt = refl; extend = λ u r x. (x, joins_unit j (holds v x.tree)); split = λ u r h x. x }
 
-  pub passed-more : {from end : ℕ} {set more set' : List ℕ} → Passed j n d s at from set → (x : Reading (part j) n d (drop from s) (byte j ∷ drop (end + 1) s))
-      → MembersOf words (λ v. holds v x.tree) more → MembersOf words (λ v. joins j (member set v) (member more v)) set' → end ≡ from + length (text x.tree)
-      → Passed j n d s at (end + 1) set'
+  pub passed-more : {from end : ℕ} {acc b : Bool} → Passed j n v d s at from acc → (x : Reading (part j) n d (drop from s) (byte j ∷ drop (end + 1) s))
+      → holds v x.tree ≡ b → end ≡ from + length (text x.tree) → Passed j n v d s at (end + 1) (joins j acc b)
   unfolding holds followed of_same before
-  passed-more {end = end} {set} {more} p x e e' h =
+  passed-more {end = end} {acc} {b} p x e h =
       let f = p.front in
       let t = text x.tree in
       let snoc : (u : List ℕ) → (f ++ (t ++ byte j ∷ [])) ++ u ≡ f ++ (t ++ byte j ∷ u) =
@@ -183,12 +173,8 @@ module _ (j : Join) {n d : ℕ} {s : List ℕ} {at : ℕ} where
         count = simp length-append (omega (arith, p.count));
         spelt = p.spelt ∙ ap (f ++◌) x.spelt ∙ sym (snoc (drop (end + 1) s));
         extend = λ u r y.
-            let z = p.extend (t ++ byte j ∷ u) r (followed (before x (byte j ∷ u)) y) in (
-              of_same (snoc u) refl z.0,
-              λ v l.
-                  z.1 v l ∙ ap (λ (c : Bool). joins j (member set v) (joins j c (holds v y.tree))) (sym (e.each v l))
-                  ∙ joins_assoc j (member set v) (member more v) (holds v y.tree) ∙ ap (λ (c : Bool). joins j c (holds v y.tree)) (sym (e'.each v l)),
-            );
+            let z = p.extend (t ++ byte j ∷ u) r (followed (before x (byte j ∷ u)) y) in
+            (of_same (snoc u) refl z.0, z.1 ∙ ap (λ (c : Bool). joins j acc (joins j c (holds v y.tree))) e ∙ joins_assoc j acc b (holds v y.tree));
         split = λ u r h' y.
             let z = p.split (t ++ byte j ∷ u) r h' (of_same (sym (snoc u)) refl y) in
             rest (before x (byte j ∷ u)) z.tree r h' z.spelt z.nested z.known;

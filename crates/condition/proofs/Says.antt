@@ -1,75 +1,80 @@
--- What follows from what a text says: the promise of `read` leaves one outcome, the character is 0 exactly where the text reads, and a
--- setting is a member of the set exactly where the condition holds. By cases on the answers; a text has one tree, and a set one array.
-use Prim.Native.Nat.{ℕ, ◌+◌, ◌≤◌, ◌<◌}
-use mathlib.Core.Path.{◌≡◌, refl, sym, ap, ap₂, subst, ◌∙◌}
-use mathlib.Core.Bool.{true}
+-- What follows from what a text says: the promise of `read` leaves one outcome, the character is 0 exactly where the text reads, and its
+-- answer decides whether it holds. By cases on the answers; two values are equal because a text has one tree.
+use Prim.Native.Nat.{ℕ, ◌+◌, ◌≤◌}
+use mathlib.Core.Path.{◌≡◌, refl, sym, ap, subst, ◌∙◌}
+use mathlib.Core.Bool.{Bool, true}
 use mathlib.Core.List.{List}
 use native.Mathlib.Omega.{arith}
 use lib.ListN.{length}
 use Rattle.verdict.specs.Checks.{Decides}
-use Rattle.verdict.proofs.Tests.{decides_true, decides_map}
-use Rattle.sets.specs.Sets.{member}
-use Rattle.sets.proofs.Arrays.{set_of_only, set_decides}
+use Rattle.verdict.proofs.Tests.{true≢false, decides_unique}
 use Rattle.condition.specs.Grammar.{condition, Tree, holds}
-use Rattle.condition.specs.Condition.{Reads, Holds, CharacterOf, character_of, settings_of, Says}
+use Rattle.condition.specs.Condition.{Reads, Holds, CharacterOf, character_of, Says}
 use Rattle.condition.specs.declared.Meaning.{Meaning}
-use Rattle.condition.specs.declared.Meaning.TheVariants.{Read, Unread}
-use Rattle.condition.specs.declared.Said.{Said}
+use Rattle.condition.specs.declared.Meaning.TheVariants.{Is, Unread}
 use Rattle.condition.proofs.Trees.{one_tree}
 use Rattle.condition.proofs.Characters.{character-unread, character-only, character-some, character-upto}
 
--- a condition that holds says so by whichever tree its text has
-pub told_holds : {n v : ℕ} {w : List ℕ} → Holds n v w → (x : Reads n w) → holds v x.tree ≡ true
-told_holds {v = v} h x = ap (λ (t : Tree condition). holds v t) (one_tree x.tree h.reads.tree (x.spelt ∙ sym h.reads.spelt)) ∙ h.true_there
+module _ {n v : ℕ} {w : List ℕ} where
+  -- from whether a text reads to what it says
+  pub value-says : {b : Bool} (x : Reads n w) → holds v x.tree ≡ b → Says n v w (Is b)
+  value-says x e = record { value = λ z. (x, ap Is (sym e)); unread = λ z. absurd (omega arith) }
 
-pub tree_decides : {n v : ℕ} {w : List ℕ} (x : Reads n w) → Decides (Holds n v w) (holds v x.tree)
-tree_decides x = decides_map (λ e. record { reads = x; true_there = e }) (λ h. told_holds h x) (decides_true _)
+  pub unread-says : {k : ℕ} → CharacterOf n w k → Says n v w (Unread k)
+  unread-says x = record { value = λ z. absurd (omega arith); unread = λ z. x }
 
-module _ {n : ℕ} {w : List ℕ} where
-  -- from an answer that is known
-  module _ {m : Said} (s : Says n w m) where
-    pub told-reads : m.meaning ≡ Read → Reads n w
-    told-reads e = s.reads (cc e)
+  -- and back
+  pub says-reads : {b : Bool} → Says n v w (Is b) → Reads n w
+  says-reads s = (s.value refl).0
 
-    pub told-character : {k : ℕ} → m.meaning ≡ Unread k → CharacterOf n w k
-    told-character e = subst (λ (a : Meaning). CharacterOf n w (character_of a)) e (s.unread (cc e))
+  says-character : {k : ℕ} → Says n v w (Unread k) → CharacterOf n w k
+  says-character s = s.unread refl
 
-    pub told-unread : {k : ℕ} → m.meaning ≡ Unread k → Reads n w → ⊥
-    told-unread e = character-unread (told-character e)
+  pub says-unread : {k : ℕ} → Says n v w (Unread k) → Reads n w → ⊥
+  says-unread s = character-unread (says-character s)
 
-    -- the set holds a setting exactly where the condition does
-    pub set_holds : (v : ℕ) → Decides ((v < settings_of n) × Holds n v w) (member m.set v)
-    set_holds = set_decides s.set
-
-  -- the promise of `read` leaves one outcome
-  pub only : (m m' : Said) → Says n w m → Says n w m' → m ≡ m'
-  only m m' s s' = ap₂ (λ (a : Meaning) (r : List ℕ). record { meaning = a; set = r }) (by m.meaning m'.meaning refl refl) (set_of_only s.set s'.set)
-    where
-      by : (a b : Meaning) → m.meaning ≡ a → m'.meaning ≡ b → m.meaning ≡ m'.meaning
-      by Read Read e f = e ∙ sym f
-      by Read (Unread k) e f = absurd (told-unread s' f (told-reads s e))
-      by (Unread k) Read e f = absurd (told-unread s e (told-reads s' f))
-      by (Unread j) (Unread k) e f = e ∙ ap Unread (character-only (told-character s e) (told-character s' f)) ∙ sym f
+-- the promise of `read` leaves one outcome
+pub only : (n v : ℕ) (w : List ℕ) (m m' : Meaning) → Says n v w m → Says n v w m' → m ≡ m'
+only n v w (Is b) (Is b') s s' =
+    let x = s.value refl in
+    let y = s'.value refl in
+    x.1 ∙ ap (λ (t : Tree condition). Is (holds v t)) (one_tree x.0.tree y.0.tree (x.0.spelt ∙ sym y.0.spelt)) ∙ sym y.1
+only n v w (Is b) (Unread k) s s' = absurd (says-unread s' (says-reads s))
+only n v w (Unread k) (Is b) s s' = absurd (says-unread s (says-reads s'))
+only n v w (Unread j) (Unread k) s s' = ap Unread (character-only (says-character s) (says-character s'))
 
 -- the character is 0 exactly where the text reads, and otherwise at least 1 and at most the length plus one
-module _ {n : ℕ} {w : List ℕ} (m : Said) (s : Says n w m) where
-  pub zero-reads : character_of m.meaning ≡ 0 → Reads n w
-  zero-reads z = by m.meaning refl
-    where
-      by : (a : Meaning) → m.meaning ≡ a → Reads n w
-      by Read e = told-reads s e
-      by (Unread k) e = absurd (omega (arith, ap character_of e, character-some (told-character s e)))
+pub zero_reads : {n v : ℕ} {w : List ℕ} (m : Meaning) → Says n v w m → character_of m ≡ 0 → Reads n w
+zero_reads (Is b) s e = says-reads s
+zero_reads (Unread k) s e = absurd (omega (arith, character-some (says-character s)))
 
-  pub reads-zero : Reads n w → character_of m.meaning ≡ 0
-  reads-zero x = by m.meaning refl
-    where
-      by : (a : Meaning) → m.meaning ≡ a → character_of m.meaning ≡ 0
-      by Read e = ap character_of e
-      by (Unread k) e = absurd (told-unread s e x)
+pub reads_zero : {n v : ℕ} {w : List ℕ} (m : Meaning) → Says n v w m → Reads n w → character_of m ≡ 0
+reads_zero (Is b) s x = refl
+reads_zero (Unread k) s x = absurd (says-unread s x)
 
-  pub character-within : (Reads n w → ⊥) → (1 ≤ character_of m.meaning) × (character_of m.meaning ≤ length w + 1)
-  character-within none = by m.meaning refl
-    where
-      by : (a : Meaning) → m.meaning ≡ a → (1 ≤ character_of m.meaning) × (character_of m.meaning ≤ length w + 1)
-      by Read e = absurd (none (told-reads s e))
-      by (Unread k) e = (omega (arith, ap character_of e, character-some (told-character s e)), omega (arith, ap character_of e, character-upto (told-character s e)))
+pub character_within : {n v : ℕ} {w : List ℕ} (m : Meaning) → Says n v w m → (Reads n w → ⊥) → (1 ≤ character_of m) × (character_of m ≤ length w + 1)
+character_within (Is b) s none = absurd (none (says-reads s))
+character_within (Unread k) s none = (character-some (says-character s), character-upto (says-character s))
+
+pub holds_only : (n v : ℕ) (w : List ℕ) (r s : Bool) → Decides (Holds n v w) r → Decides (Holds n v w) s → r ≡ s
+holds_only n v w r s = decides_unique _ r s
+
+-- from an answer that is known
+module _ {n v : ℕ} {w : List ℕ} {m : Meaning} (s : Says n v w m) where
+  pub told-reads : {b : Bool} → m ≡ Is b → Reads n w
+  told-reads e = says-reads (subst (Says n v w) e s)
+
+  pub told-unread : {k : ℕ} → m ≡ Unread k → Reads n w → ⊥
+  told-unread e = says-unread (subst (Says n v w) e s)
+
+  pub told-character : {k : ℕ} → m ≡ Unread k → CharacterOf n w k
+  told-character e = says-character (subst (Says n v w) e s)
+
+  pub told-decides : {b : Bool} → m ≡ Is b → Decides (Holds n v w) b
+  told-decides {b} e =
+      let q = subst (Says n v w) e s in
+      let x = q.value refl in
+      record {
+        holds = λ t. record { reads = x.0; true_there = cc x.1 };
+        fails = λ t h. true≢false (cc (only n v w (Is b) (Is true) q (value-says h.reads h.true_there)));
+      }

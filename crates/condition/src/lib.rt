@@ -1,41 +1,31 @@
-// Conditions (document 01): the settings at which what a text says holds, read at a number of inputs, or which character is wrong in it.
+// Conditions (document 01): what a text says at a setting, read at a number of inputs, or which character is wrong in it.
 //
 // One function for each level of the grammar. Each reads the part that begins at `at`, where `opened` parentheses are open, and
 // loops over what its level joins; the levels come round again only inside a parenthesis.
-ghost use Rattle.std.specs.Prelude.{ℕ, ◌+◌, ◌-◌, ◌^◌, ◌<◌, ◌≡◌, true, false, ◌&&◌, ltb};
+ghost use Rattle.std.specs.Prelude.{ℕ, ◌-◌};
 ghost use Rattle.verdict.specs.Checks.{Decides};
-ghost use Rattle.sets.specs.Sets.{words, member, MembersOf};
 ghost use Rattle.condition.specs.Grammar.{condition as conditionLevel, term as termLevel, factor as factorLevel};
-ghost use Rattle.condition.specs.Condition.{parentheses, settings_of, Says};
-ghost use Rattle.condition.specs.inner.Parts.{code, At, Skipped, flipped, Found};
+ghost use Rattle.condition.specs.Condition.{parentheses, Says, Holds};
+ghost use Rattle.condition.specs.inner.Parts.{code, At, Skipped, Found};
 
 use basics::wide;
 use machine::INPUTS;
-use sets::WORDS;
 
 // The most parentheses open at any place.
 pub const PARENTHESES: usize = 8;
 
-// Whether a text reads, or at which character it does not, counted from 1.
+// What a text says: whether its condition holds; or that it does not read, and at which character, counted from 1.
 #[derive(Drop)]
 pub enum Meaning {
-    Read,
+    Is(bool),
     Unread(usize),
 }
 
-// What a text says: the settings at which its condition holds, none where it does not read.
+// What reading a part found: whether it holds, and where it ends; or the place of the character that it cannot go on with.
 #[derive(Drop)]
-pub struct Said {
-    pub meaning: Meaning,
-    pub set: [u64; WORDS],
-}
-
-// What reading a part found: the settings at which it holds, and where it ends; or the place of the character that it cannot go on with.
-#[derive(Drop)]
-struct Part {
-    reads: bool,
-    place: usize,
-    set: [u64; WORDS],
+enum Part {
+    Value(bool, usize),
+    Bad(usize),
 }
 
 // Whether the `!` before a factor negate it, and where they end.
@@ -45,122 +35,92 @@ struct Negation {
     end: usize,
 }
 
-// What the text says, read at this number of inputs.
-pub fn read(text: &[u8], inputs: usize) -> Said
-    ensures { Says inputs text.now result }
+// What the text says at the setting, read at this number of inputs.
+pub fn read(text: &[u8], inputs: usize, setting: usize) -> Meaning
+    ensures { Says inputs setting text.now result }
 {
-    let part = condition(text, 0, inputs, 0);
-    if !part.reads {
-        return unread(part.place);
-    }
-    if part.place != text.len() {
-        return unread(part.place);
-    }
-    let set = part.set;
-    Said {
-        meaning: Meaning::Read,
-        set: settings_in(set, inputs),
+    match condition(text, 0, inputs, setting, 0) {
+        Part::Bad(place) => Meaning::Unread(place + 1),
+        Part::Value(holds, end) => {
+            if end == text.len() {
+                Meaning::Is(holds)
+            } else {
+                Meaning::Unread(end + 1)
+            }
+        }
     }
 }
 
-// What a text says that does not read at a place.
-fn unread(place: usize) -> Said
-    requires { place + 1 < 2 ^ 64 }
-    ensures { (result.meaning ≡ Meaning.Unread (place + 1)) × MembersOf words (λ v. false) result.set }
+// Whether the text is that of a condition which holds at the setting.
+pub fn holds(text: &[u8], inputs: usize, setting: usize) -> bool
+    ensures { Decides (Holds inputs setting text.now) result }
 {
-    Said {
-        meaning: Meaning::Unread(place + 1),
-        set: sets::none(),
+    match read(text, inputs, setting) {
+        Meaning::Is(b) => b,
+        Meaning::Unread(_) => false,
     }
-}
-
-// The settings of so many inputs that are in the set; with as many as a machine may have, and with more, all are.
-fn settings_in(set: [u64; WORDS], inputs: usize) -> [u64; WORDS]
-    ensures { MembersOf words (λ v. ltb v (settings_of inputs) && member set v) result }
-{
-    if INPUTS <= inputs {
-        return set;
-    }
-    sets::both(sets::below(1 << inputs), set)
 }
 
 // Terms joined by `+`.
 #[cycle(bare_condition_enclosed_factor_term)]
-fn condition(text: &[u8], at: usize, inputs: usize, opened: usize) -> Part
-    ensures { Found conditionLevel inputs (parentheses - opened) text.now at result }
+fn condition(text: &[u8], at: usize, inputs: usize, setting: usize, opened: usize) -> Part
+    ensures { Found conditionLevel inputs setting (parentheses - opened) text.now at result }
 {
-    let mut any = sets::none();
+    let mut any = false;
     let mut from = at;
     loop {
-        let part = term(text, from, inputs, opened);
-        if !part.reads {
-            return part;
+        match term(text, from, inputs, setting, opened) {
+            Part::Bad(place) => {
+                return Part::Bad(place);
+            }
+            Part::Value(holds, end) => {
+                any = any | holds;
+                if stands(text, end, b'+') {
+                    from = end + 1;
+                } else {
+                    return Part::Value(any, end);
+                }
+            }
         }
-        let set = part.set;
-        let joined = sets::either(any, set);
-        if !stands(text, part.place, b'+') {
-            return Part {
-                reads: true,
-                place: part.place,
-                set: joined,
-            };
-        }
-        any = joined;
-        from = part.place + 1;
     }
 }
 
 // Factors joined by `.`.
 #[cycle(bare_condition_enclosed_factor_term)]
-fn term(text: &[u8], at: usize, inputs: usize, opened: usize) -> Part
-    ensures { Found termLevel inputs (parentheses - opened) text.now at result }
+fn term(text: &[u8], at: usize, inputs: usize, setting: usize, opened: usize) -> Part
+    ensures { Found termLevel inputs setting (parentheses - opened) text.now at result }
 {
-    let mut all = sets::all();
+    let mut all = true;
     let mut from = at;
     loop {
-        let part = factor(text, from, inputs, opened);
-        if !part.reads {
-            return part;
+        match factor(text, from, inputs, setting, opened) {
+            Part::Bad(place) => {
+                return Part::Bad(place);
+            }
+            Part::Value(holds, end) => {
+                all = all & holds;
+                if stands(text, end, b'.') {
+                    from = end + 1;
+                } else {
+                    return Part::Value(all, end);
+                }
+            }
         }
-        let set = part.set;
-        let joined = sets::both(all, set);
-        if !stands(text, part.place, b'.') {
-            return Part {
-                reads: true,
-                place: part.place,
-                set: joined,
-            };
-        }
-        all = joined;
-        from = part.place + 1;
     }
 }
 
 // Any number of `!`, and then a factor that begins with none.
 #[cycle(bare_condition_enclosed_factor_term)]
-fn factor(text: &[u8], at: usize, inputs: usize, opened: usize) -> Part
-    ensures { Found factorLevel inputs (parentheses - opened) text.now at result }
+fn factor(text: &[u8], at: usize, inputs: usize, setting: usize, opened: usize) -> Part
+    ensures { Found factorLevel inputs setting (parentheses - opened) text.now at result }
 {
     let before = bangs(text, at);
     let from = before.end;
     let negates = before.negates;
-    let part = bare(text, from, inputs, opened);
-    let set = part.set;
-    Part {
-        reads: part.reads,
-        place: part.place,
-        set: negated(negates, set),
+    match bare(text, from, inputs, setting, opened) {
+        Part::Bad(place) => Part::Bad(place),
+        Part::Value(holds, end) => Part::Value(negates != holds, end),
     }
-}
-
-// The set, or the settings that are not in it where negates is true.
-fn negated(negates: bool, set: [u64; WORDS]) -> [u64; WORDS]
-    ensures { MembersOf words (λ v. flipped negates (member set v)) result }
-{
-    if negates {
-        return sets::others(set);
-    }
-    set
 }
 
 // The `!` that stand from `at` on.
@@ -179,89 +139,63 @@ fn bangs(text: &[u8], at: usize) -> Negation
 
 // A factor that begins with no `!`.
 #[cycle(bare_condition_enclosed_factor_term)]
-fn bare(text: &[u8], at: usize, inputs: usize, opened: usize) -> Part
+fn bare(text: &[u8], at: usize, inputs: usize, setting: usize, opened: usize) -> Part
     requires { At text.now at (code "!") → ⊥ }
-    ensures { Found factorLevel inputs (parentheses - opened) text.now at result }
+    ensures { Found factorLevel inputs setting (parentheses - opened) text.now at result }
 {
     if stands(text, at, b'(') {
-        return enclosed(text, at, inputs, opened);
+        return enclosed(text, at, inputs, setting, opened);
     }
-    single(text, at, inputs)
+    single(text, at, inputs, setting)
 }
 
 // A condition in parentheses.
 #[cycle(bare_condition_enclosed_factor_term)]
-fn enclosed(text: &[u8], at: usize, inputs: usize, opened: usize) -> Part
+fn enclosed(text: &[u8], at: usize, inputs: usize, setting: usize, opened: usize) -> Part
     requires { At text.now at (code "(") }
-    ensures { Found factorLevel inputs (parentheses - opened) text.now at result }
+    ensures { Found factorLevel inputs setting (parentheses - opened) text.now at result }
 {
     if PARENTHESES <= opened {
-        return bad(at);
+        return Part::Bad(at);
     }
-    let part = condition(text, at + 1, inputs, opened + 1);
-    if !part.reads {
-        return part;
-    }
-    if !stands(text, part.place, b')') {
-        return bad(part.place);
-    }
-    let set = part.set;
-    Part {
-        reads: true,
-        place: part.place + 1,
-        set: set,
+    match condition(text, at + 1, inputs, setting, opened + 1) {
+        Part::Bad(place) => Part::Bad(place),
+        Part::Value(holds, end) => {
+            if stands(text, end, b')') {
+                Part::Value(holds, end + 1)
+            } else {
+                Part::Bad(end)
+            }
+        }
     }
 }
 
 // `0`, `1`, or an input letter; input a weighs 1, b 2, and so on.
-fn single(text: &[u8], at: usize, inputs: usize) -> Part
+fn single(text: &[u8], at: usize, inputs: usize, setting: usize) -> Part
     requires { (At text.now at (code "!") → ⊥) × (At text.now at (code "(") → ⊥) }
-    ensures { (d : ℕ) → Found factorLevel inputs d text.now at result }
+    ensures { (d : ℕ) → Found factorLevel inputs setting d text.now at result }
 {
     if text.len() <= at {
-        return bad(at);
+        return Part::Bad(at);
     }
     let c = text[at];
     if c == b'0' {
-        return one(at, sets::none());
+        return Part::Value(false, at + 1);
     }
     if c == b'1' {
-        return one(at, sets::all());
+        return Part::Value(true, at + 1);
     }
     if c < b'a' {
-        return bad(at);
+        return Part::Bad(at);
     }
     let input = wide(c - b'a');
     if inputs <= input {
-        return bad(at);
+        return Part::Bad(at);
     }
     if INPUTS <= input {
-        return bad(at);
+        return Part::Bad(at);
     }
-    one(at, sets::input(input))
-}
-
-// A part of one character.
-fn one(at: usize, set: [u64; WORDS]) -> Part
-    requires { at + 1 < 2 ^ 64 }
-    ensures { result ≡ record { reads = true; place = at + 1; set = set } }
-{
-    Part {
-        reads: true,
-        place: at + 1,
-        set: set,
-    }
-}
-
-// A part that cannot go on with the character at the place.
-fn bad(place: usize) -> Part
-    ensures { (result.reads ≡ false) × (result.place ≡ place) }
-{
-    Part {
-        reads: false,
-        place: place,
-        set: sets::none(),
-    }
+    Part::Value((setting >> input) % 2 == 1, at + 1)
 }
 
 // Whether the character c stands at `at`.

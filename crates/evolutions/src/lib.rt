@@ -4,6 +4,7 @@ ghost use Rattle.verdict.specs.Checks.{Decides};
 ghost use Rattle.evolutions.specs.Evolutions.{blank, Met};
 
 use basics::{long, wide};
+use condition::holds;
 
 // An evolution: its source and target, the place in the file and the length of its condition.
 #[repr(C)]
@@ -15,8 +16,7 @@ pub struct Evolution {
     pub length: u8,
 }
 
-// Whether the condition of evolution e of a file that was read holds at the setting; beyond the records none does, nor any at a number
-// that is no setting of so many inputs.
+// Whether the condition of evolution e of a file that was read holds at the setting; beyond the records none does.
 pub fn evolution_holds(
     records: &[Evolution],
     e: usize,
@@ -55,7 +55,5 @@ fn met(file: &[u8], e: Evolution, inputs: usize, setting: usize) -> bool
     if file.len() < end {
         return false;
     }
-    let said = condition::read(&file[at..end], inputs);
-    let set = said.set;
-    sets::has(set, setting)
+    holds(&file[at..end], inputs, setting)
 }

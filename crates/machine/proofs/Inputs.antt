@@ -9,7 +9,7 @@ use native.Mathlib.Omega.{arith}
 use lib.Dec.{eqb}
 use lib.Pow.{pow_pos, high, low, field, mod-mod-pow, shr-shr}
 use borrow.Author.Tests.{eq-eqb, ne_eqb}
-use Rattle.sets.proofs.Bits.{same_bits}
+use Rattle.sets.proofs.Members.{same_bits}
 use Rattle.machine.specs.Couples.{input, differing}
 use Rattle.machine.specs.inner.Flips.{flipped}
 use Rattle.machine.proofs.Order.{below_or, equal_or}

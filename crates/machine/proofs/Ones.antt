@@ -8,7 +8,7 @@ use lib.Count.{ones, ones_cat}
 use lib.Bits.{bit_xor, xor_block, xor_lt}
 use lib.Dec.{eqb}
 use lib.Pow.{pow_pos}
-use Rattle.sets.proofs.Bits.{bit_pairs, low_bits}
+use Rattle.sets.proofs.Members.{bit_pairs, low_bits}
 use Rattle.machine.specs.Couples.{input, one_unless, differing}
 
 -- of one input

@@ -37,8 +37,8 @@ stored_as false m = stored
 
 -- a flag put up at a: couple d is a, or what its flag said before
 module _ {Q : Type 0} (F : List Bool) (a d : ℕ) (h : d < length F) (q : Decides Q (get_or F d false)) where
-  set_decides : Decides ((d ≡ a) ⊎ Q) (get_or (set F a true) d false)
-  set_decides = go (ℕ_discrete d a)
+  set-decides : Decides ((d ≡ a) ⊎ Q) (get_or (set F a true) d false)
+  set-decides = go (ℕ_discrete d a)
     where
       go : Dec (d ≡ a) → Decides ((d ≡ a) ⊎ Q) (get_or (set F a true) d false)
       go (yes e) = rw (ap (λ (k : ℕ). get_or (set F a true) k false) e ∙ get_or-set_same F a true false (rw (← e) h)) (it_holds (inl e))
@@ -57,7 +57,7 @@ module _ {m : Machine} {W P : List ℕ} (x : Told m W P) where
   noted_run_lem : {Q : Type 0} (r c : ℕ) → Away m c r → (F : List Bool) (d : ℕ) → d < length F → Decides Q (get_or F d false)
       → Decides (In d (visits m (chain c (suc r))) ⊎ Q) (get_or (noted_run m.table P (size m) c r F) d false)
   unfolding noted_run noted_change
-  noted_run_lem {Q} zero c y F d h q = rw (visits-first x c y) (decides_map to of (set_decides F c d h q))
+  noted_run_lem {Q} zero c y F d h q = rw (visits-first x c y) (decides_map to of (set-decides F c d h q))
     where
       to : (d ≡ c) ⊎ Q → In d (c ∷ []) ⊎ Q
       to i = ⊎_elim (λ e. inl (inl e)) inr i
@@ -65,7 +65,7 @@ module _ {m : Machine} {W P : List ℕ} (x : Told m W P) where
       of : In d (c ∷ []) ⊎ Q → (d ≡ c) ⊎ Q
       of i = ⊎_elim (λ j. ⊎_elim inl absurd j) inr i
   noted_run_lem {Q} (suc r) c y F d h q =
-      rw (visits-last x r c y) (decides_map to of (noted_run_lem r p (chain_back x c r y).1 (set (set F a true) b true) d (simp length-set h) (set_decides (set F a true) b d (simp length-set h) (set_decides F a d h q))))
+      rw (visits-last x r c y) (decides_map to of (noted_run_lem r p (chain_back x c r y).1 (set (set F a true) b true) d (simp length-set h) (set-decides (set F a true) b d (simp length-set h) (set-decides F a d h q))))
     where
       p : ℕ
       p = get_or P c 0

@@ -1,8 +1,8 @@
-// The rows about conditions: for each text 0 0 where it reads, 5 and the character where it does not; then the sets of some.
+// The rows about conditions: for each text 0 0 where it reads, 5 and the character where it does not.
 ghost use Rattle.std.specs.Prelude.{◌≡◌};
 ghost use Rattle.condition.specs.Condition.{number_of, character_of};
 
-use crate::lines::{end, name, number, set_words, word};
+use crate::lines::{end, name, number, word};
 use condition::Meaning;
 
 // The number and the character of an answer.
@@ -52,48 +52,9 @@ pub(crate) fn characters() {
     end();
 }
 
-// The sets of `a`, `!a` and `1` with n = 1, and of `f`, `!f` and `1` with n = 6: beyond the 2^n settings there are none.
-pub(crate) fn sets_of_one_word() {
-    name(b"sets with 1 input, with 6");
-    members(b"a", 1);
-    members(b"!a", 1);
-    members(b"1", 1);
-    members(b"f", 6);
-    members(b"!f", 6);
-    members(b"1", 6);
-    end();
-}
-
-// Those of `g` and `!a+g` with n = 7.
-pub(crate) fn sets_of_two_words() {
-    name(b"sets with 7 inputs");
-    members(b"g", 7);
-    members(b"!a+g", 7);
-    end();
-}
-
-// Those of `h`, `!h`, `a.!h+g`, `!(a+b).h` and `0` with n = 8, and of `a+`, which does not read.
-pub(crate) fn sets_of_every_word() {
-    name(b"sets with 8 inputs");
-    members(b"h", 8);
-    members(b"!h", 8);
-    members(b"a.!h+g", 8);
-    members(b"!(a+b).h", 8);
-    members(b"0", 8);
-    members(b"a+", 8);
-    end();
-}
-
-fn members(text: &[u8], inputs: usize) {
-    let whole = condition::read(text, inputs);
-    let set = whole.set;
-    set_words(set);
-}
-
+// Where a text does not read, what it says does not depend on the setting: it is read at 0.
 fn reading(text: &[u8], inputs: usize) {
-    let whole = condition::read(text, inputs);
-    let meaning = whole.meaning;
-    let of = said(meaning);
+    let of = said(condition::read(text, inputs, 0));
     word(b"|");
     number(of.number);
     number(of.character);
@@ -104,7 +65,7 @@ fn said(answer: Meaning) -> Numbers
     ensures character { result.character ≡ character_of answer }
 {
     match answer {
-        Meaning::Read => Numbers {
+        Meaning::Is(_) => Numbers {
             number: 0,
             character: 0,
         },

@@ -1,7 +1,7 @@
 // The rows about the two sets of a frame, the settings that are never used and the allowed starts: what reading answers as them, and
 // what the table jobs answer with the frame that reading gave.
 use crate::changes::change;
-use crate::lines::{end, name, set_words, word};
+use crate::lines::{end, name, number, word};
 use crate::plans::{planned, readings_of};
 use crate::ranks::published;
 use crate::samples::{both_lamp, gate_file, lamp_file, ruled_gate, ruled_lamp};
@@ -88,14 +88,17 @@ fn of_file(what: &[u8], file: &mut [u8], changes: &[u8]) {
 // The words of the settings that are ruled out, and those of the allowed starts.
 fn both_sets(what: &[u8], frame: Frame) {
     let never = frame.never;
-    one_set(what, b"never", never);
+    one_set(what, b"never |", never);
     let starts = frame.starts;
-    one_set(what, b"starts", starts);
+    one_set(what, b"starts |", starts);
 }
 
 fn one_set(what: &[u8], which: &[u8], set: [u64; WORDS]) {
     name(what);
     word(which);
-    set_words(set);
+    number(set[0]);
+    number(set[1]);
+    number(set[2]);
+    number(set[3]);
     end();
 }

@@ -2,7 +2,6 @@
 ghost use Rattle.std.specs.Prelude.{◌≤◌, length};
 
 use libc::STDOUT_FILENO;
-use sets::WORDS;
 use verdict::Answer;
 
 pub(crate) fn name(row: &[u8]) {
@@ -67,15 +66,6 @@ pub(crate) fn values(buffer: &[u16]) {
 
 fn value(x: u16) {
     number(x as u64);
-}
-
-// The words of a set, behind a bar.
-pub(crate) fn set_words(set: [u64; WORDS]) {
-    word(b"|");
-    number(set[0]);
-    number(set[1]);
-    number(set[2]);
-    number(set[3]);
 }
 
 // Rows of what a buffer holds, so many values each: its name, a word, and the number of the row from 0.

@@ -41,9 +41,6 @@ fn files() {
     conditions::letters();
     conditions::parentheses();
     conditions::characters();
-    conditions::sets_of_one_word();
-    conditions::sets_of_two_words();
-    conditions::sets_of_every_word();
     lamps::rows();
     optional::rows();
     rests::rows();

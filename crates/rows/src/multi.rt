@@ -2,9 +2,10 @@
 use crate::lines::{answered, written};
 use crate::plans;
 use crate::plans::of_gate;
-use crate::ranks::{counted, gate_frame, gate_table, only, started};
+use crate::ranks::{counted, gate_frame, gate_table, started};
 use crate::samples::ruled_gate;
 use machine::Frame;
+use sets::WORDS;
 
 // The couples of the gate that no single changes visit.
 pub(crate) fn gate_unmarked() {
@@ -40,7 +41,7 @@ pub(crate) fn gate_runs() {
         44,
         &mut short,
     );
-    let from_5 = started(frame, only(5));
+    let from_5 = started(frame, sets::with([0; WORDS], 5));
     to(b"gate from 5, multi run to 19", from_5, 19);
 }
 

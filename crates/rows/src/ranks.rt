@@ -1,5 +1,5 @@
 // The rows about marking: the ranks a line a state, as the published tables have them, then the counts.
-ghost use Rattle.std.specs.Prelude.{◌≡◌, ◌<◌, length};
+ghost use Rattle.std.specs.Prelude.{◌≡◌, length};
 
 use crate::lines::{answer, answered, count, counts, end, name, number, parts, places, word};
 use machine::{Frame, UNMARKED};
@@ -32,15 +32,6 @@ pub(crate) fn started(frame: Frame, starts: [u64; WORDS]) -> Frame {
     let mut other = frame;
     other.starts = starts;
     other
-}
-
-// The set of one setting, whose bit is in the first word.
-pub(crate) fn only(setting: usize) -> [u64; WORDS]
-    requires { setting < 64 }
-{
-    let mut set = [0; WORDS];
-    set[0] = 1 << setting;
-    set
 }
 
 // The moves of the gate: source document 002, table 1.

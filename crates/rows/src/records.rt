@@ -10,9 +10,6 @@ pub(crate) fn rows() {
     beyond();
     inputs();
     end();
-    name(b"evolutions at 3 and 2, with 1 input and with 2");
-    no_settings();
-    end();
 }
 
 // The evolutions at settings 0 and 1.
@@ -39,16 +36,6 @@ fn inputs() {
     word(b"|");
     row(LAMP, 0, 0, 1);
     row(LAMP, 0, 9, 1);
-}
-
-// Both at a number where their conditions hold, but which is no setting of 1 input.
-fn no_settings() {
-    word(b"|");
-    row(LAMP, 0, 1, 3);
-    row(LAMP, 1, 1, 2);
-    word(b"|");
-    row(LAMP, 0, 2, 3);
-    row(LAMP, 1, 2, 2);
 }
 
 // An evolution asked in so many bytes of the lamp.

@@ -1,12 +1,12 @@
 // The rows about table jobs that are told of few starts: the gate from setting 8 alone, and the lamp from none.
 use crate::plans::{readings_of, run_to};
-use crate::ranks::{gate_frame, gate_table, lamp_frame, marked_here, only, published, started};
+use crate::ranks::{gate_frame, gate_table, lamp_frame, marked_here, published, started};
 use crate::shorter::shortened;
 use machine::Frame;
 use sets::WORDS;
 
 fn gate_from_8() -> Frame {
-    started(gate_frame(), only(8))
+    started(gate_frame(), sets::with([0; WORDS], 8))
 }
 
 pub(crate) fn gate_ranks() {

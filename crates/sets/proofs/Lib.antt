@@ -1,4 +1,3 @@
-pub mod Bits
 pub mod Members
 pub mod Arrays
-pub mod Inputs
+pub mod Once

@@ -9,23 +9,14 @@ words = 4
 abbrev pub most_members : ℕ
 most_members = 64 * words
 
--- bit i of a number is 1
-abbrev pub bit : ℕ → ℕ → Bool
-bit x i = eqb (x / 2 ^ i % 2) 1
-
 -- setting v is a member if bit v % 64 of word v / 64 is 1
 abbrev pub member : List ℕ → ℕ → Bool
-member set v = bit (get_or set (v / 64) 0) (v % 64)
+member set v = eqb (get_or set (v / 64) 0 / 2 ^ (v % 64) % 2) 1
 
 -- an array of n words
 pub record Words (n : ℕ) (set : List ℕ) : Type 0 where
   pub count : length set ≡ n
   pub small : (i : ℕ) → i < n → get_or set i 0 < 2 ^ 64
-
--- the set, in n words, of the settings of which P is true, as far as there are bits for them
-pub record MembersOf (n : ℕ) (P : ℕ → Bool) (set : List ℕ) : Type 0 where
-  pub array : Words n set
-  pub each : (v : ℕ) → v < 64 * n → member set v ≡ P v
 
 -- the set, in n words, of what holds of each of so many settings; no other is a member
 pub record SetOf (n settings : ℕ) (P : ℕ → Type 0) (set : List ℕ) : Type 0 where

@@ -1,32 +1,42 @@
--- The conditions of a file by their places: they stand end to end, those of the records where their lengths sum up to, and those beyond
--- are bodies of entries. The character with an answer is one, since 5 is that of a condition, which has one.
-use mathlib.Core.Path.{◌≡◌, refl, sym, ap, ap₂, ◌∙◌}
-use mathlib.Core.Logic.{⊎_elim}
+-- The conditions of a file by their places: that of a record ends where the next text begins, and those beyond are bodies of entries.
+-- The character with an answer is one, since 5 is that of a condition, which has one.
+use mathlib.Core.Path.{◌≡◌, refl, sym, ap₂, ◌∙◌}
 use mathlib.Core.List.{List}
-use Prim.Native.Nat.{ℕ, zero, suc, ◌+◌, ◌-◌, ◌≤◌, ◌<◌}
-use native.Mathlib.Nat.{add-zero}
+use Prim.Native.Nat.{ℕ, ◌+◌, ◌-◌, ◌≤◌, ◌<◌}
 use native.Mathlib.Omega.{arith}
 use native.Mathlib.Decide.{ℕ_discrete}
-use lib.ListN.{length, take, drop}
+use lib.ListN.{length, get_or, take, drop, set}
 use borrow.Author.Tests.{lt-ltb, le-ltb}
+use Rattle.verdict.specs.Buffers.{Filled}
 use Rattle.verdict.specs.Checks.{Judged, Passed}
 use Rattle.verdict.specs.declared.Answer.{Answer}
 use Rattle.verdict.proofs.Order.{judged-or, judged_number}
+use Rattle.verdict.proofs.Fills.{filled_more}
 use Rattle.condition.proofs.Characters.{character-only}
-use Rattle.specification.specs.File.{count_of, length_of, start_of, body_of, kinds}
+use Rattle.specification.specs.File.{count_of, body_of, kinds}
 use Rattle.specification.specs.Records.{records, text_length}
 use Rattle.specification.specs.Rules.{text_at, text_of, conditions, condition_of, Unreads}
 use Rattle.specification.specs.Reading.{CharacterFor}
-use Rattle.specification.specs.inner.Private.{Laid, condition_length, condition_at, most_conditions, sound_checks}
+use Rattle.specification.specs.inner.Private.{Laid, Placed, sound_checks}
 use Rattle.specification.specs.declared.records.Sizes.{Sizes}
-use Rattle.specification.proofs.Entries.{count-few, body-within}
-use Rattle.specification.proofs.Laws.{start_more}
-use Rattle.verdict.proofs.Below.{sum_more, sum_below, sum_on}
-use Rattle.verdict.specs.Below.{sum_to}
-use Rattle.machine.proofs.Order.{below_or}
+use Rattle.specification.proofs.Entries.{count-few}
+use Rattle.verdict.proofs.Below.{sum_more, sum_below}
 
+module _ {file : List ℕ} {z : Sizes} (l : Laid file z) where
+  -- two at most have no record
+  pub conditions-few : conditions z ≤ records z + 2
+  conditions-few = omega (arith, l.counted, count-few l.formed.entries)
+
+  -- a condition that has none is the body of an entry
+  pub condition-there : (r : ℕ) → records z ≤ r → r < conditions z → kinds + (r - records z) < count_of file
+  condition-there r h k = omega (arith, l.counted, l.formed.headed.count)
+
+  -- the places that the lengths sum up to
+  pub placed : {at : ℕ} {a b : List ℕ} → Filled (records z) (λ k x. x ≡ text_at file z k) a b → records z < length a → at ≡ text_at file z (records z) → Placed file z (set b (records z) at)
+  placed f h e = record { laid = l; at = λ r k. (filled_more f h e).needed r (omega arith) }
+
+-- the condition of a record, and one beyond
 module _ (file : List ℕ) (z : Sizes) (r : ℕ) where
-  -- the condition of a record, and one beyond
   pub condition-record : r < records z → condition_of file z r ≡ text_of file z r
   unfolding condition_of
   condition-record h = rw (lt-ltb r (records z) h)
@@ -35,61 +45,20 @@ module _ (file : List ℕ) (z : Sizes) (r : ℕ) where
   unfolding condition_of
   condition-body h = rw (le-ltb r (records z) h)
 
-  -- and its length
-  pub length-record : r < records z → condition_length file z r ≡ text_length file z r
-  unfolding condition_length
-  length-record h = rw (lt-ltb r (records z) h)
+-- the condition of record r is the part of the file between its place and the next
+module _ {file : List ℕ} {z : Sizes} {places : List ℕ} (p : Placed file z places) {r : ℕ} (h : r < records z) where
+  pub record-ends : (get_or places (r + 1) 0 ≡ get_or places r 0 + text_length file z r) × (get_or places (r + 1) 0 ≤ length file)
+  record-ends =
+      let e = sum_more (text_length file z) r in
+      let b = sum_below (text_length file z) r (records z) h in
+      let a = p.at r (omega arith) in
+      let n = p.at (r + 1) (omega arith) in
+      (omega arith, omega (arith, p.laid.texts))
 
-  pub length-body : records z ≤ r → condition_length file z r ≡ length_of file (kinds + (r - records z))
-  unfolding condition_length
-  length-body h = rw (le-ltb r (records z) h)
-
-module _ {file : List ℕ} {z : Sizes} (l : Laid file z) where
-  -- two at most have no record
-  pub conditions-few : conditions z ≤ most_conditions
-  conditions-few = omega (arith, l.counted, count-few l.formed.entries, l.ranges.few_states, l.ranges.few_evolutions)
-
-  -- a condition that has none is the body of an entry
-  pub condition-there : (r : ℕ) → records z ≤ r → r < conditions z → kinds + (r - records z) < count_of file
-  condition-there r h k = omega (arith, l.counted, l.formed.headed.count)
-
-  -- and so numbered
-  pub entry-numbered : {k : ℕ} → kinds ≤ k → k < count_of file → records z + (k - kinds) < conditions z
-  entry-numbered h b = omega (arith, l.counted)
-
-  -- the texts of the records begin where their lengths sum up to, and each body beyond where the contents have it
-  pub at-record : (r : ℕ) → r ≤ records z → condition_at file z r ≡ text_at file z r
-  unfolding sum_to
-  at-record r h = omega (arith, sum_on (condition_length file z) (text_length file z) 0 0 r (omega arith) refl (λ i _ k. length-record file z i (omega arith)))
-
-  at_body : (j : ℕ) → condition_at file z (records z + j) ≡ start_of file (kinds + j)
-  at_body zero = rw (add-zero (records z)) (at-record (records z) (omega arith) ∙ l.ends)
-  at_body (suc j) =
-      let e : records z + suc j ≡ (records z + j) + 1 = omega arith in
-      let f : kinds + suc j ≡ (kinds + j) + 1 = omega arith in
-      let g : kinds + (records z + j - records z) ≡ kinds + j = omega arith in
-      rw (e, f) (omega (arith, at_body j, sum_more (condition_length file z) (records z + j), start_more file (kinds + j), length-body file z (records z + j) (omega arith), ap (length_of file) g))
-
-  -- condition r is the part of the file that begins there
-  module _ (r : ℕ) (h : r < conditions z) where
-    abbrev Stands : Type 0
-    Stands = (condition_at file z r + condition_length file z r ≤ length file) × (take (condition_length file z r) (drop (condition_at file z r) file) ≡ condition_of file z r)
-
-    by-record : r < records z → Stands
-    by-record k =
-        let a = at-record r (omega arith) in
-        let n = length-record file z r k in
-        (omega (arith, a, n, sum_below (text_length file z) r (records z) k, l.texts), ap₂ (λ (n at : ℕ). take n (drop at file)) n a ∙ sym (condition-record file z r k))
-
-    by-body : records z ≤ r → Stands
-    by-body k =
-        let e : records z + (r - records z) ≡ r = omega arith in
-        let a : condition_at file z r ≡ start_of file (kinds + (r - records z)) = ap (condition_at file z) (sym e) ∙ at_body (r - records z) in
-        let n = length-body file z r k in
-        (omega (arith, a, n, body-within l.formed.entries (kinds + (r - records z)) (condition-there r k h)), ap₂ (λ (n at : ℕ). take n (drop at file)) n a ∙ sym (condition-body file z r k))
-
-    pub condition-part : Stands
-    condition-part = ⊎_elim by-record by-body (below_or r (records z))
+  pub record-text : take (get_or places (r + 1) 0 - get_or places r 0) (drop (get_or places r 0) file) ≡ text_of file z r
+  record-text =
+      let n : get_or places (r + 1) 0 - get_or places r 0 ≡ text_length file z r = omega (arith, record-ends.0) in
+      ap₂ (λ (n at : ℕ). take n (drop at file)) n (p.at r (omega arith))
 
 -- 5 is the refusal of a condition that does not read
 pub five_unreads : {file : List ℕ} {z : Sizes} {a : Answer} → Judged (sound_checks file z) Passed a → a.number ≡ 5 → Unreads file z a.place

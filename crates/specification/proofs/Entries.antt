@@ -7,7 +7,7 @@ use Prim.Native.Nat.{ℕ, zero, suc, ◌+◌, ◌-◌, ◌≤◌, ◌<◌}
 use native.Mathlib.Omega.{arith}
 use native.Mathlib.Nat.{le_of_suc-le-suc, eq-or-lt_of_le}
 use lib.ListN.{length}
-use Rattle.specification.specs.File.{count_of, kind_of, length_of, start_of, kinds, EntryOf, Entries}
+use Rattle.specification.specs.File.{count_of, kind_of, length_of, start_of, EntryOf, Entries}
 use Rattle.specification.specs.inner.Private.{most_kinds, KindFits}
 use Rattle.specification.proofs.Laws.{start_more, start_le}
 
@@ -41,10 +41,6 @@ module _ {file : List ℕ} (x : Entries file) where
       let below : i < j → ⊥ = λ l. omega (arith, above i j l b.there, a.is, b.is) in
       let beyond : j < i → ⊥ = λ l. omega (arith, above j i l a.there, a.is, b.is) in
       omega arith
-
-  -- a kind beyond the first four has an entry beyond theirs
-  pub entry-beyond : {kind k : ℕ} → kinds < kind → EntryOf file kind k → kinds ≤ k
-  entry-beyond {k = k} h o = let b : k < kinds → ⊥ = λ l. omega (arith, x.always k l, o.is) in omega arith
 
   pub body-within : (k : ℕ) → k < count_of file → start_of file k + length_of file k ≤ length file
   body-within k l = omega (arith, start_more file k, start_le file (k + 1) (count_of file) (omega arith), x.ends)

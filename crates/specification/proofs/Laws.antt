@@ -67,7 +67,6 @@ laid file w s =
       counted = refl;
       worded = worded_few (rests_of file) (sizes_of file).states;
       texts = omega (arith, e.1, e.2, s.states, s.texts);
-      ends = omega (arith, e.1, s.states, s.texts);
       few = w.headed.few;
     }
 
@@ -96,3 +95,4 @@ module _ {file : List ℕ} {z : Sizes} {r : ℕ} where
 pub wrong_below : (file : List ℕ) (z : Sizes) (check : RecordCheck) (r : ℕ) → Wrong file z check r → r < records z
 wrong_below file z RecordCheck.TheVariants.Beyond r w = beyond-below w
 wrong_below file z RecordCheck.TheVariants.Own r w = w.evolves.below
+wrong_below file z RecordCheck.TheVariants.Twice r w = w.evolves.below

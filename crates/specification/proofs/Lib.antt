@@ -2,12 +2,9 @@ pub mod Laws
 pub mod Entries
 pub mod Optional
 pub mod Conditions
-pub mod Keeping
 pub mod Framing
 pub mod Firing
 pub mod Forms
-pub mod Pairs
-pub mod Gathering
 pub mod Scan
 pub mod Settling
 pub mod Outcomes

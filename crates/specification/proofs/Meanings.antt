@@ -23,7 +23,6 @@ use Rattle.sets.proofs.Arrays.{set-none, set_of_only}
 use Rattle.condition.specs.Condition.{Holds}
 use Rattle.evolutions.specs.Evolutions.{blank, Met}
 use Rattle.evolutions.specs.declared.Evolution.{Evolution}
-use Rattle.machine.specs.Limits.{most_inputs}
 use Rattle.machine.specs.Couples.{couple_at, Couple}
 use Rattle.machine.proofs.Order.{below_or}
 use Rattle.specification.specs.File.{never_kind, starts_kind, Has}
@@ -35,9 +34,7 @@ use Rattle.specification.specs.Before.{AnyStart}
 use Rattle.specification.specs.declared.Contents.{Contents}
 use Rattle.specification.specs.declared.records.Sizes.{Sizes}
 use Rattle.verdict.proofs.Below.{sum_below}
-use Rattle.specification.specs.inner.Private.{Laid}
 use Rattle.specification.proofs.Laws.{laid}
-use Rattle.specification.proofs.Keeping.{settings_are}
 use Rattle.specification.proofs.Optional.{none_never, zero-allowed, any-allowed}
 use Rattle.specification.proofs.Once.{no-two-rules}
 use Rattle.specification.proofs.Settling.{same-rule}
@@ -97,23 +94,20 @@ module _ {file table words : List ℕ} {a : List Evolution} {r : Contents} {t w 
       ∙ get_or-append (evolutions file (sizes_of file) (sizes_of file).evolutions) _ blank i (rw (many file (sizes_of file) (sizes_of file).evolutions) l)
       ∙ nth file (sizes_of file) (sizes_of file).evolutions i l
 
-  -- such a file passes 1 and 2
-  laid-not : {P : Type 0} → (Laid file (sizes_of file) → P → ⊥) → P → ⊥
-  laid-not not x = let p = judged_passes 13 u.here.verdict refl e in p.0.nowhere 0 (refl, λ f. p.1.0.nowhere 0 (refl, λ s. not (laid file f s) x))
-
   -- its text lies in the file
   inside : (i : ℕ) → i < (sizes_of file).evolutions → (evolution_of file (sizes_of file) i).at + (evolution_of file (sizes_of file) i).length ≤ length file
   inside i h =
       let z = sizes_of file in
       let k = z.states + i in
-      let n : length file < text_at file z k + text_length file z k → ⊥ = laid-not (λ l x. omega (arith, l.texts, sum_below (text_length file z) k (records z) (omega arith))) in
+      let p = judged_passes 13 u.here.verdict refl e in
+      let n : length file < text_at file z k + text_length file z k → ⊥ =
+      λ l. p.0.nowhere 0 (refl, λ f. p.1.0.nowhere 0 (refl, λ s. omega (arith, (laid file f s).texts, sum_below (text_length file z) k (records z) (omega arith)))) in
       omega arith
 
-  -- what is asked of record i at a setting is asked of the condition of evolution i
-  pub record-asks : (i v : ℕ) {q : Bool} → i < r.evolutions → v < settings (sizes_of file) → Decides (Met file (get_or b i blank) r.frame.inputs v) q → Decides (Holds (sizes_of file).inputs v (text_of file (sizes_of file) ((sizes_of file).states + i))) q
-  record-asks i v {q} h l d =
+  -- what is asked of record i is asked of the condition of evolution i
+  pub record-asks : (i v : ℕ) {q : Bool} → i < r.evolutions → Decides (Met file (get_or b i blank) r.frame.inputs v) q → Decides (Holds (sizes_of file).inputs v (text_of file (sizes_of file) ((sizes_of file).states + i))) q
+  record-asks i v {q} h d =
       let n : r.frame.inputs ≡ (sizes_of file).inputs = (u.here.done e).frame.inputs in
       let m : r.evolutions ≡ (sizes_of file).evolutions = (u.here.done e).evolutions in
-      let few : most_inputs < (sizes_of file).inputs → ⊥ = laid-not (λ l x. omega (arith, l.ranges.few_inputs)) in
-      decides_map (λ x. x.holds) (λ x. record { inside = inside i (omega arith); setting = omega (arith, settings_are {n = (sizes_of file).inputs} (omega arith)); holds = x })
+      decides_map (λ x. x.holds) (λ x. record { inside = inside i (omega arith); holds = x })
       (subst₂ (λ (x : Evolution) (n : ℕ). Decides (Met file x n v) q) (record_is i h) n d)

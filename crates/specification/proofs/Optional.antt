@@ -1,19 +1,30 @@
--- The bodies beyond kind 4: a kind has one entry, so that the set of the settings at which the body of a kind holds is that of its
--- condition. So the sets of a frame are those of kinds 5 and 6, or where there is none the empty set and that of setting 0 alone.
-use mathlib.Core.Path.{◌≡◌, sym, subst}
+-- The bodies beyond kind 4: each is the part of the file from its offset on, and a kind has one entry, so that the set of the settings
+-- at which the body of a kind holds is that of its condition. So the sets of a frame are those of kinds 5 and 6, or where there is none
+-- the empty set and that of setting 0 alone.
+use mathlib.Core.Path.{◌≡◌, sym, ap₂, subst, ◌∙◌}
 use mathlib.Core.List.{List}
-use Prim.Native.Nat.{ℕ}
+use Prim.Native.Nat.{ℕ, ◌+◌, ◌-◌, ◌≤◌, ◌<◌}
+use native.Mathlib.Omega.{arith}
+use lib.ListN.{length, take, drop, replicate}
 use Rattle.sets.specs.Sets.{words, SetOf}
-use Rattle.sets.proofs.Arrays.{set_same}
+use Rattle.sets.proofs.Arrays.{set-none, set_same}
 use Rattle.condition.specs.Condition.{Holds}
 use Rattle.condition.proofs.Examples.{one_holds}
-use Rattle.specification.specs.File.{body_of, never_kind, starts_kind, EntryOf, Has, Entries}
+use Rattle.specification.specs.File.{count_of, offset_of, length_of, body_of, never_kind, starts_kind, EntryOf, Has, Entries}
 use Rattle.specification.specs.Records.{settings}
 use Rattle.specification.specs.Rules.{HoldsIn, Never, Allowed, said, power_up}
 use Rattle.specification.specs.Before.{AnyStart}
 use Rattle.specification.specs.inner.Private.{SetIn, there, without}
 use Rattle.specification.specs.declared.records.Sizes.{Sizes}
-use Rattle.specification.proofs.Entries.{one_entry}
+use Rattle.specification.proofs.Entries.{one_entry, body-within}
+
+-- a body by the offset and the length that its entry has
+module _ {file : List ℕ} (x : Entries file) {k at long : ℕ} (h : k < count_of file) (a : at ≡ offset_of file k) (n : long ≡ length_of file k) where
+  pub offset-within : at + long ≤ length file
+  offset-within = omega (arith, body-within x k h, x.offset k h)
+
+  pub body_at : take (at + long - at) (drop at file) ≡ body_of file k
+  body_at = let m : at + long - at ≡ length_of file k = omega arith in ap₂ (λ (n at : ℕ). take n (drop at file)) m (a ∙ x.offset k h)
 
 -- the condition of the one body of a kind
 module _ {file : List ℕ} (x : Entries file) {z : Sizes} {kind k : ℕ} (o : EntryOf file kind k) where
@@ -27,9 +38,9 @@ module _ {file : List ℕ} {z : Sizes} where
   pub none_never : {v : ℕ} → (Has file never_kind → ⊥) → Never file z v → ⊥
   none_never n x = n (x.entry, x.of)
 
-  pub never-set : {first set : List ℕ} → SetOf words (settings z) (λ v. ⊥) first → SetIn file z never_kind first set → SetOf words (settings z) (Never file z) set
-  never-set f (there _ s) = s
-  never-set f (without n e) = subst (SetOf words (settings z) (Never file z)) (sym e) (set_same (λ v x. absurd x) (λ v. none_never n) f)
+  pub never-set : {set : List ℕ} → SetIn file z never_kind (replicate words 0) set → SetOf words (settings z) (Never file z) set
+  never-set (there _ s) = s
+  never-set (without n e) = subst (SetOf words (settings z) (Never file z)) (sym e) (set-none words (settings z) (λ v _ x. none_never n x))
 
   -- without kind 6 setting 0 alone, with it where it holds, and with the text `1` any setting
   pub zero-allowed : {v : ℕ} → (Has file starts_kind → ⊥) → Allowed file z v → v ≡ 0

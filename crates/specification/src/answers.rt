@@ -1,13 +1,13 @@
 // What reading a file answers and hands on: a refusal, or the sizes and the frame.
-ghost use Rattle.std.specs.Prelude.{◌≡◌, ℕ};
+ghost use Rattle.std.specs.Prelude.{◌≡◌};
 ghost use Rattle.verdict.specs.Checks.{Passed, Judged};
 ghost use Rattle.specification.specs.Rules.{FrameOf};
 ghost use Rattle.specification.specs.Reading.{refusal_of};
 ghost use Rattle.specification.specs.inner.Private.{Laid, sound_checks, OutcomeAs};
 
 use crate::Contents;
-use crate::records::{Sizes, record_at};
-use crate::texts::{character_of, condition_at};
+use crate::records::{Sizes, record_at, texts_sum};
+use crate::rules::character_of;
 use machine::Frame;
 use sets::WORDS;
 use verdict::Answer;
@@ -23,19 +23,6 @@ pub(crate) struct Core {
     pub good: bool,
 }
 
-// The frame of a refusal, all zero.
-pub(crate) fn no_frame() -> Frame
-    ensures { (a : Answer) (character : ℕ) → result ≡ (refusal_of a character).frame }
-{
-    Frame {
-        inputs: 0,
-        states: 0,
-        initial: 0,
-        never: [0; WORDS],
-        starts: [0; WORDS],
-    }
-}
-
 pub(crate) fn refusal(a: Answer, character: usize) -> Contents
     ensures { result ≡ refusal_of a character }
 {
@@ -44,17 +31,23 @@ pub(crate) fn refusal(a: Answer, character: usize) -> Contents
         character: character,
         outputs: 0,
         evolutions: 0,
-        frame: no_frame(),
+        frame: Frame {
+            inputs: 0,
+            states: 0,
+            initial: 0,
+            never: [0; WORDS],
+            starts: [0; WORDS],
+        },
     }
 }
 
 // What is answered and handed on of a file that passes 1 to 3: its sizes, its frame and its evolutions where it is sound.
 pub(crate) fn outcome(file: &[u8], z: Sizes, frame: Frame, a: Answer) -> Core
-    requires { Laid file.now z × (a.number ≡ 0 → FrameOf file.now z frame) × Judged (sound_checks file.now z) Passed a }
+    requires { Laid file.now z × FrameOf file.now z frame × Judged (sound_checks file.now z) Passed a }
     ensures { OutcomeAs file.now z a result }
 {
     let from = record_at(z, z.states);
-    let text = condition_at(file, z, z.states);
+    let text = record_at(z, z.states + z.evolutions) + texts_sum(file, z, z.states);
     if a.number != 0 {
         return Core {
             contents: refusal(a, character_of(file, z, a)),

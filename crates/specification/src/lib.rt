@@ -9,7 +9,6 @@ mod handing;
 mod reading;
 mod records;
 mod rules;
-mod texts;
 
 use crate::handing::fill;
 use crate::reading::read_core;

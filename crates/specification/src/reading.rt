@@ -7,21 +7,17 @@ ghost use Rattle.tables.specs.Tables.{Tabled};
 ghost use Rattle.specification.specs.Limits.{blank_move, blank_word};
 ghost use Rattle.specification.specs.File.{WellFormed};
 ghost use Rattle.specification.specs.Records.{sizes_of, settings, couples as couplesOf, word as word_of, Sized};
-ghost use Rattle.specification.specs.Rules.{conditions, MoveAt, FrameOf};
+ghost use Rattle.specification.specs.Rules.{MoveAt, FrameOf};
 ghost use Rattle.specification.specs.Reading.{shape_checks, record_checks};
-ghost use Rattle.specification.specs.inner.Private.{most_conditions, Laid, Kept, filled_checks, sound_checks, SoundAs, CoreAs};
+ghost use Rattle.specification.specs.inner.Private.{Laid, Placed, filled_checks, sound_checks, SoundAs, CoreAs};
 
-use crate::answers::{Core, no_frame, outcome, refusal};
+use crate::answers::{Core, outcome, refusal};
 use crate::file::{bodies_of, formed, measured};
 use crate::frames::frame_of;
-use crate::records::{
-    RecordCheck, Sizes, couples, first_twice, first_wrong, sized, sizes_of, word,
-};
-use crate::rules::{BLANK_MOVE, fill_moves};
-use crate::texts::{CONDITIONS, read_texts};
+use crate::records::{RecordCheck, Sizes, couples, first_wrong, sized, sizes_of, word};
+use crate::rules::{BLANK_MOVE, TEXTS, check_texts, fill_moves, next_rules, places_of};
 use basics::narrow;
 use machine::Frame;
-use sets::WORDS;
 use tables::check_sound;
 use verdict::{Answer, Found, Room, check_rooms};
 
@@ -86,11 +82,10 @@ fn check_shape(file: &[u8], table: usize, words: usize, records: usize) -> Shape
     Shape { answer, z }
 }
 
-// Refusals 4 to 7, and the sets of the conditions.
-fn check_records(file: &[u8], z: Sizes, kept: &mut [[u64; WORDS]; CONDITIONS]) -> Answer
-    requires { Laid file.now z × (length kept.old ≡ most_conditions) }
-    ensures judged { Judged (record_checks file.now z) Passed result }
-    ensures kept { result.number ≡ 0 → Kept file.now z (conditions z) kept.new }
+// Refusals 4 to 7.
+fn check_records(file: &[u8], z: Sizes, places: &[usize; TEXTS]) -> Answer
+    requires { Placed file.now z places.now }
+    ensures { Judged (record_checks file.now z) Passed result }
 {
     if let Found::At(p) = first_wrong(file, z, RecordCheck::Beyond) {
         return Answer {
@@ -98,7 +93,7 @@ fn check_records(file: &[u8], z: Sizes, kept: &mut [[u64; WORDS]; CONDITIONS]) -
             place: p,
         };
     }
-    let texts = read_texts(file, z, kept);
+    let texts = check_texts(file, z, places);
     if texts.number != 0 {
         return texts;
     }
@@ -108,7 +103,7 @@ fn check_records(file: &[u8], z: Sizes, kept: &mut [[u64; WORDS]; CONDITIONS]) -
             place: p,
         };
     }
-    if let Found::At(p) = first_twice(file, z) {
+    if let Found::At(p) = first_wrong(file, z, RecordCheck::Twice) {
         return Answer {
             number: 7,
             place: p,
@@ -145,45 +140,28 @@ fn check_moves(frame: Frame, table: &[u8], words: &[u16]) -> Answer
     a
 }
 
-// The answer of refusals 4 to 13, and the frame of a file that passes them.
-#[derive(Drop)]
-struct Settled {
-    answer: Answer,
-    frame: Frame,
-}
-
 // Refusals 4 to 13. On success the table and the words are filled; after a refusal their needed elements may be anything.
-fn settle(file: &[u8], z: Sizes, table: &mut [u8], words: &mut [u16]) -> Settled
-    requires { Laid file.now z × (couplesOf z ≤ length table.old) × (z.states ≤ length words.old) }
-    ensures judged { Judged (sound_checks file.now z) Passed result.answer }
-    ensures frame { result.answer.number ≡ 0 → FrameOf file.now z result.frame }
-    ensures table { Filled (couplesOf z) (λ p x. result.answer.number ≡ 0 → MoveAt file.now z (settings z) p x) table.old table.new }
-    ensures words { Filled z.states (λ s w. result.answer.number ≡ 0 → w ≡ word_of file.now z s) words.old words.new }
+fn settle(file: &[u8], z: Sizes, frame: Frame, table: &mut [u8], words: &mut [u16]) -> Answer
+    requires { Laid file.now z × FrameOf file.now z frame × (couplesOf z ≤ length table.old) × (z.states ≤ length words.old) }
+    ensures judged { Judged (sound_checks file.now z) Passed result }
+    ensures table { Filled (couplesOf z) (λ p x. result.number ≡ 0 → MoveAt file.now z (settings z) p x) table.old table.new }
+    ensures words { Filled z.states (λ s w. result.number ≡ 0 → w ≡ word_of file.now z s) words.old words.new }
 {
-    let mut kept = [[0u64; WORDS]; CONDITIONS];
-    let a = check_records(file, z, &mut kept);
+    let places = places_of(file, z);
+    let a = check_records(file, z, &places);
     if a.number != 0 {
-        return Settled {
-            answer: a,
-            frame: no_frame(),
-        };
+        return a;
     }
-    let frame = frame_of(file, z, &kept);
     fill_words(file, z, words);
+    let next = next_rules(file, z);
     let m = machine::settings(z.inputs);
-    if let Found::At(p) = fill_moves(file, z, &kept, m, table) {
-        return Settled {
-            answer: Answer {
-                number: 8,
-                place: p,
-            },
-            frame: frame,
+    if let Found::At(p) = fill_moves(file, z, &places, &next, m, table) {
+        return Answer {
+            number: 8,
+            place: p,
         };
     }
-    Settled {
-        answer: check_moves(frame, table, words),
-        frame: frame,
-    }
+    check_moves(frame, table, words)
 }
 
 fn blank_table(table: &mut [u8], count: usize)
@@ -205,17 +183,16 @@ fn blank_words(words: &mut [u16], count: usize)
 }
 
 // Refusals 4 to 13, and the table and the words as they are left.
-fn read_sound(file: &[u8], z: Sizes, table: &mut [u8], words: &mut [u16]) -> Settled
-    requires { Laid file.now z × (couplesOf z ≤ length table.old) × (z.states ≤ length words.old) }
-    ensures sound { SoundAs file.now z table.old words.old result.answer table.new words.new }
-    ensures frame { result.answer.number ≡ 0 → FrameOf file.now z result.frame }
+fn read_sound(file: &[u8], z: Sizes, frame: Frame, table: &mut [u8], words: &mut [u16]) -> Answer
+    requires { Laid file.now z × FrameOf file.now z frame × (couplesOf z ≤ length table.old) × (z.states ≤ length words.old) }
+    ensures { SoundAs file.now z table.old words.old result table.new words.new }
 {
-    let settled = settle(file, z, table, words);
-    if settled.answer.number != 0 {
+    let a = settle(file, z, frame, table, words);
+    if a.number != 0 {
         blank_table(table, couples(z));
         blank_words(words, z.states);
     }
-    settled
+    a
 }
 
 // Reads a file at room for so many records: its table of moves and its words, or the first check that fails, at its smallest place.
@@ -233,6 +210,7 @@ pub(crate) fn read_core(file: &[u8], table: &mut [u8], words: &mut [u16], record
         };
     }
     let z = shape.z;
-    let settled = read_sound(file, z, table, words);
-    outcome(file, z, settled.frame, settled.answer)
+    let frame = frame_of(file, z);
+    let a = read_sound(file, z, frame, table, words);
+    outcome(file, z, frame, a)
 }

@@ -1,24 +1,18 @@
 // Sizes and records: refusals 2, 4, 6 and 7.
 ghost use Rattle.std.specs.Prelude.{◌≡◌, cond, ℕ, ◌+◌, ◌*◌, ◌<◌, ◌≤◌, ◌^◌, length, get_or};
-ghost use Rattle.verdict.specs.Checks.{Decides, None, Finds};
+ghost use Rattle.verdict.specs.Checks.{Decides, Finds};
 ghost use Rattle.basics.specs.Words.{most_outputs};
 ghost use Rattle.specification.specs.Limits.{most_bytes, most_text};
 ghost use Rattle.specification.specs.File.{kinds, rests_of, Headed, WellFormed};
 ghost use Rattle.verdict.specs.Below.{sum_to};
-ghost use Rattle.specification.specs.Records.{couples as couplesOf, records, record_at, byte_of, word as word_of, source as source_of, target as target_of, text_length, sizes_of, Ranges, Sized, Evolves, Beyond, Twice};
-ghost use Rattle.specification.specs.inner.Private.{most_kinds, Decoded, Laid, Wrong, most_pairs, pair_of};
+ghost use Rattle.specification.specs.Records.{couples as couplesOf, records, record_at, byte_of, word as word_of, source as source_of, target as target_of, text_length, sizes_of, Ranges, Sized};
+ghost use Rattle.specification.specs.inner.Private.{most_kinds, Decoded, Laid, Wrong};
 
 use crate::file::{Bodies, KINDS, has_rests, two_at};
 use crate::{EVOLUTIONS, TEXT};
 use basics::{OUTPUTS, wide};
 use machine::{INPUTS, STATES, settings};
 use verdict::Found;
-
-// The most pairs of a source and a target.
-const PAIRS: usize = STATES * STATES;
-
-// The most records.
-pub(crate) const RECORDS: usize = STATES + EVOLUTIONS;
 
 // The sizes of a file, where its records begin, how many bodies there are beyond kind 4, and the first record that has a condition.
 #[derive(Drop)]
@@ -33,11 +27,12 @@ pub(crate) struct Sizes {
     pub worded: usize,
 }
 
-// The checks of single records: refusals 4 and 6.
+// The checks of single records: refusals 4, 6 and 7.
 #[derive(Drop)]
 pub(crate) enum RecordCheck {
     Beyond,
     Own,
+    Twice,
 }
 
 // The first record that has a condition: the first state's, or in a file without rest conditions the first evolution's.
@@ -125,7 +120,7 @@ pub(crate) fn text_length(file: &[u8], z: Sizes, r: usize) -> usize
 }
 
 // The lengths of the conditions of the first records, summed.
-fn texts_sum(file: &[u8], z: Sizes, count: usize) -> usize
+pub(crate) fn texts_sum(file: &[u8], z: Sizes, count: usize) -> usize
     requires { (record_at z count ≤ length file.now) × (length file.now ≤ most_bytes) }
     ensures { result ≡ sum_to (text_length file.now z) count }
 {
@@ -231,6 +226,26 @@ fn own(file: &[u8], z: Sizes, r: usize) -> bool
     target(file, z, r) == source(file, z, r)
 }
 
+// Refusal 7 at a record.
+fn twice(file: &[u8], z: Sizes, r: usize) -> bool
+    requires { Laid file.now z × (r < records z) }
+    ensures { Decides (Wrong file.now z RecordCheck.Twice r) result }
+{
+    if r < z.states {
+        return false;
+    }
+    let from = source(file, z, r);
+    let to = target(file, z, r);
+    for q in z.states..r {
+        if source(file, z, q) == from {
+            if target(file, z, q) == to {
+                return true;
+            }
+        }
+    }
+    false
+}
+
 fn wrong(file: &[u8], z: Sizes, check: RecordCheck, r: usize) -> bool
     requires { Laid file.now z × (r < records z) }
     ensures { Decides (Wrong file.now z check r) result }
@@ -238,6 +253,7 @@ fn wrong(file: &[u8], z: Sizes, check: RecordCheck, r: usize) -> bool
     match check {
         RecordCheck::Beyond => beyond(file, z, r),
         RecordCheck::Own => own(file, z, r),
+        RecordCheck::Twice => twice(file, z, r),
     }
 }
 
@@ -251,31 +267,6 @@ pub(crate) fn first_wrong(file: &[u8], z: Sizes, check: RecordCheck) -> Found
         if wrong(file, z, check, r) {
             return Found::At(r);
         }
-    }
-    Found::Nothing
-}
-
-// The number of an evolution's pair of source and target.
-fn pair(file: &[u8], z: Sizes, r: usize) -> usize
-    requires { Laid file.now z × None (Beyond file.now z) × Evolves z r }
-    ensures { (result ≡ pair_of file.now z r) × (result < most_pairs) }
-{
-    source(file, z, r) * STATES + target(file, z, r)
-}
-
-// Refusal 7: the first evolution with the source and target of an earlier one.
-pub(crate) fn first_twice(file: &[u8], z: Sizes) -> Found
-    requires { Laid file.now z × None (Beyond file.now z) }
-    ensures { Finds (Twice file.now z) result }
-{
-    let count = z.states + z.evolutions;
-    let mut seen = [false; PAIRS];
-    for r in z.states..count {
-        let p = pair(file, z, r);
-        if seen[p] {
-            return Found::At(r);
-        }
-        seen[p] = true;
     }
     Found::Nothing
 }

@@ -1,21 +1,100 @@
-// Rules and moves: refusal 8, and the table.
-ghost use Rattle.std.specs.Prelude.{◌≡◌, [], ℕ, ◌*◌, ◌<◌, ◌≤◌, length, get_or};
-ghost use Rattle.verdict.specs.Checks.{None, Finds};
+// Rules and moves: refusals 5 and 8, and the table.
+ghost use Rattle.std.specs.Prelude.{◌≡◌, ℕ, ◌+◌, ◌*◌, ◌<◌, ◌≤◌, length, [], ◌∷◌};
+ghost use Rattle.verdict.specs.Checks.{check, Decides, None, Finds, Judged, Passed};
 ghost use Rattle.verdict.specs.Buffers.{Filled};
-ghost use Rattle.sets.specs.Sets.{most_members, member};
-ghost use Rattle.machine.specs.Limits.{most_states};
-ghost use Rattle.specification.specs.Records.{settings, records, Own};
-ghost use Rattle.specification.specs.Rules.{conditions, rule_of, leads_to, TwoRules};
-ghost use Rattle.specification.specs.inner.Private.{most_records, most_conditions, Laid, Kept, WordedRule, Gathered, rest_of, Noted};
+ghost use Rattle.condition.specs.Condition.{Says, Holds};
+ghost use Rattle.machine.specs.Limits.{most_states, most_settings};
+ghost use Rattle.specification.specs.Records.{records, Own};
+ghost use Rattle.specification.specs.Rules.{text_of, conditions, condition_of, Unreads, rule_of, leads_to, TwoRules};
+ghost use Rattle.specification.specs.Reading.{CharacterFor};
+ghost use Rattle.specification.specs.inner.Private.{Laid, Placed, Follows, Linked, first_rule, rest_of, Noted, sound_checks};
 
-use crate::records::{RECORDS, Sizes, source, target};
-use crate::texts::CONDITIONS;
+use crate::EVOLUTIONS;
+use crate::file::{KINDS, length_of, offset_of};
+use crate::records::{Sizes, record_at, source, target, text_length};
 use basics::byte;
-use sets::{BITS, WORDS};
-use verdict::Found;
+use condition::Meaning;
+use machine::STATES;
+use verdict::{Answer, Found};
+
+// The most places of texts: where that of each record begins, and where the last one ends.
+pub(crate) const TEXTS: usize = STATES + EVOLUTIONS + 1;
 
 // What a table holds where there is no move.
 pub(crate) const BLANK_MOVE: u8 = 255;
+
+// Where the text of each record begins, and where the last one ends.
+pub(crate) fn places_of(file: &[u8], z: Sizes) -> [usize; TEXTS]
+    requires { Laid file.now z }
+    ensures { Placed file.now z result }
+{
+    let count = z.states + z.evolutions;
+    let mut places = [0usize; TEXTS];
+    let mut at = record_at(z, count);
+    for r in 0..count {
+        places[r] = at;
+        at = at + text_length(file, z, r);
+    }
+    places[count] = at;
+    places
+}
+
+// What condition r says at setting 0: that of a record, or a body beyond kind 4.
+fn says(file: &[u8], z: Sizes, places: &[usize; TEXTS], r: usize) -> Meaning
+    requires { Placed file.now z places.now × (r < conditions z) }
+    ensures { Says z.inputs 0 (condition_of file.now z r) result }
+{
+    let count = z.states + z.evolutions;
+    if r < count {
+        return condition::read(&file[places[r]..places[r + 1]], z.inputs, 0);
+    }
+    let k = KINDS + (r - count);
+    let at = offset_of(file, k);
+    condition::read(&file[at..at + length_of(file, k)], z.inputs, 0)
+}
+
+// Refusal 5.
+pub(crate) fn check_texts(file: &[u8], z: Sizes, places: &[usize; TEXTS]) -> Answer
+    requires { Placed file.now z places.now }
+    ensures { Judged (check 5 (Unreads file.now z) ∷ []) Passed result }
+{
+    let count = z.states + z.evolutions + z.more;
+    for r in z.worded..count {
+        let Meaning::Is(_) = says(file, z, places, r) else {
+            return Answer {
+                number: 5,
+                place: r,
+            };
+        };
+    }
+    Answer {
+        number: 0,
+        place: 0,
+    }
+}
+
+// The character of refusal 5, that of its record's condition; 0 with every other answer.
+pub(crate) fn character_of(file: &[u8], z: Sizes, a: Answer) -> usize
+    requires { Laid file.now z × Judged (sound_checks file.now z) Passed a }
+    ensures { CharacterFor file.now z a result }
+{
+    if a.number != 5 {
+        return 0;
+    }
+    let places = places_of(file, z);
+    match says(file, z, &places, a.place) {
+        Meaning::Is(_) => 0,
+        Meaning::Unread(character) => character,
+    }
+}
+
+// Whether the condition of record r holds at the setting v.
+fn rule_holds(file: &[u8], z: Sizes, places: &[usize; TEXTS], r: usize, v: usize) -> bool
+    requires { Placed file.now z places.now × (r < records z) }
+    ensures { Decides (Holds z.inputs v (text_of file.now z r)) result }
+{
+    condition::holds(&file[places[r]..places[r + 1]], z.inputs, v)
+}
 
 // The state that record r is a rule of.
 fn rule_of(file: &[u8], z: Sizes, r: usize) -> usize
@@ -39,21 +118,43 @@ fn leads_to(file: &[u8], z: Sizes, r: usize) -> u8
     byte(target(file, z, r))
 }
 
-// The records of the state s that have a condition, in their order, at the front of `rules`, and how many they are.
-fn rules_of(file: &[u8], z: Sizes, s: usize, rules: &mut [usize; RECORDS]) -> usize
-    requires { Laid file.now z × (length rules.old ≡ most_records) }
-    ensures gathers { Gathered (WordedRule file.now z s) (records z) result rules.new }
-    ensures keeps { length rules.new ≡ most_records }
+// The next rule, after record r, of the state that r is a rule of; the number of records where there is none.
+fn next_rule(file: &[u8], z: Sizes, r: usize) -> usize
+    requires { Laid file.now z × (r < records z) }
+    ensures { Follows file.now z r result }
 {
+    let s = rule_of(file, z, r);
     let count = z.states + z.evolutions;
-    let mut n: usize = 0;
-    for r in z.worded..count {
-        if rule_of(file, z, r) == s {
-            rules[n] = r;
-            n += 1;
+    for q in r + 1..count {
+        if rule_of(file, z, q) == s {
+            return q;
         }
     }
-    n
+    count
+}
+
+// The next rule after each record.
+pub(crate) fn next_rules(file: &[u8], z: Sizes) -> [usize; TEXTS]
+    requires { Laid file.now z }
+    ensures { Linked file.now z result }
+{
+    let count = z.states + z.evolutions;
+    let mut next = [0usize; TEXTS];
+    for r in 0..count {
+        next[r] = next_rule(file, z, r);
+    }
+    next
+}
+
+// The first rule of the state s that has a condition, as those from `worded` on have.
+fn first_rule(next: &[usize; TEXTS], worded: usize, s: usize) -> usize
+    requires { s < most_states }
+    ensures { result ≡ first_rule next.now worded s }
+{
+    if s < worded {
+        return next[s];
+    }
+    s
 }
 
 // What stands for the state s where none of its rules that have a condition holds: s itself if it has no rest condition, or the blank.
@@ -67,44 +168,38 @@ fn rest_of(worded: usize, s: usize) -> u8
     BLANK_MOVE
 }
 
-// Whether the set that is kept of condition r has the setting v. One word of it is read, so that it is not copied.
-fn kept_at(kept: &[[u64; WORDS]; CONDITIONS], r: usize, v: usize) -> bool
-    requires { (r < most_conditions) × (v < most_members) }
-    ensures { result ≡ member (get_or kept.now r []) v }
-{
-    sets::in_word(kept[r][v / BITS], v)
-}
-
 // Refusal 8: the first couple at which two rules hold. Up to it the table is filled with the moves, blank where no rule holds.
 pub(crate) fn fill_moves(
     file: &[u8],
     z: Sizes,
-    kept: &[[u64; WORDS]; CONDITIONS],
+    places: &[usize; TEXTS],
+    next: &[usize; TEXTS],
     m: usize,
     table: &mut [u8],
 ) -> Found
-    requires { Laid file.now z × Kept file.now z (conditions z) kept.now × ((r : ℕ) → r < records z → leads_to file.now z r < z.states) × (m ≤ settings z) × (z.states * m ≤ length table.old) × None (Own file.now z) }
+    requires { Placed file.now z places.now × Linked file.now z next.now × ((r : ℕ) → r < records z → leads_to file.now z r < z.states) × (m ≤ most_settings) × (z.states * m ≤ length table.old) × None (Own file.now z) }
     ensures finds { Finds (TwoRules file.now z m) result }
     ensures fills { Filled (z.states * m) (λ p x. result ≡ Found.Nothing → Noted file.now z m p x) table.old table.new }
 {
     let states = z.states;
-    let mut rules = [0usize; RECORDS];
+    let count = states + z.evolutions;
     let mut found = Found::Nothing;
     'search: for s in 0..states {
-        let n = rules_of(file, z, s, &mut rules);
+        let first = first_rule(next, z.worded, s);
         let rest = rest_of(z.worded, s);
         for v in 0..m {
             let p = s * m + v;
             let mut to = rest;
-            for i in 0..n {
-                let r = rules[i];
-                if kept_at(kept, r, v) {
+            let mut r = first;
+            while r < count {
+                if rule_holds(file, z, places, r, v) {
                     if to != rest {
                         found = Found::At(p);
                         break 'search;
                     }
                     to = leads_to(file, z, r);
                 }
+                r = next[r];
             }
             table[p] = to;
         }

@@ -1,9 +1,10 @@
 -- Document 01's starred rows ("Examples on both sides"), in its order, and document 02's of ticket 5, as one table. Assumes nothing:
 -- these are definitions.
-use Rattle.std.specs.Prelude.{◌≡◌, List, [], ◌∷◌, ℕ, ◌-◌, ◌^◌, ◌≤◌, get_or, replicate}
+use Rattle.std.specs.Prelude.{◌≡◌, true, false, List, [], ◌∷◌, ℕ, ◌-◌, ◌^◌, ◌≤◌, get_or, replicate}
 use Rattle.basics.specs.Texts.{letters}
 use Rattle.verdict.specs.Checks.{Passed, Judged}
-use Rattle.condition.specs.Condition.{Reads, Holds}
+use Rattle.condition.specs.Condition.{Says}
+use Rattle.condition.specs.declared.Meaning.TheVariants.{Is}
 use Rattle.sets.specs.Sets.{words}
 use Rattle.machine.specs.declared.Frame.{Frame}
 use Rattle.machine.specs.Runs.{Machine, machine_of, couples, RanksOf}
@@ -67,9 +68,9 @@ pub record Rows : Type 0 where
   -- gate, couple 19: 15
   pub gate_unmarked : RunRefused gate 19 15 0
   -- `a+b.c` at setting 1 (only a on): holds
-  pub and_before_or : Holds 3 1 (letters "a+b.c")
+  pub and_before_or : Says 3 1 (letters "a+b.c") (Is true)
   -- `!a.b` at setting 0: does not hold
-  pub not_before_and : Reads 2 (letters "!a.b") × (Holds 2 0 (letters "!a.b") → ⊥)
+  pub not_before_and : Says 2 0 (letters "!a.b") (Is false)
   -- lamp with `1` as the rest of state 0: 8, place 1
   pub two_rules : Answered two_rules_file 8 1
   -- the gate without kind 6: 13

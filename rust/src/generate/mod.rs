@@ -2,7 +2,6 @@
 //! lists and logs.
 
 mod apart;
-mod conditions;
 mod contents;
 mod damage;
 mod files;
@@ -15,7 +14,6 @@ mod texts;
 mod unreadable;
 
 pub use apart::{any_apart, widest_table};
-pub use conditions::any_condition;
 pub use damage::{damaged, damaged_without_rests};
 pub use files::{file_of_regions, largest_file, largest_without_rests};
 pub use files::{random_bytes, random_file, settled_file};

@@ -135,7 +135,7 @@ fn by_de_morgan(tree: Tree) -> Tree {
 }
 
 /// Most parentheses open at any place of a text.
-pub fn depth(text: &str) -> usize {
+fn depth(text: &str) -> usize {
     let mut open = 0;
     let mut most = 0;
     for sign in text.bytes() {

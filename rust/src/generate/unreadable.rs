@@ -2,13 +2,13 @@
 
 use super::texts::{padded, random_condition};
 use super::Random;
-use crate::plain::{settings_of, PARENTHESES, TEXT};
+use crate::plain::{holds, PARENTHESES, TEXT};
 
 /// Some text that does not read at that many inputs; now and then of the most bytes.
 pub fn unreadable(random: &mut Random, inputs: usize) -> Vec<u8> {
     loop {
         let text = spoiled(random, inputs);
-        if settings_of(&text, inputs).is_none() {
+        if holds(&text, inputs, 0).is_none() {
             return text;
         }
     }

@@ -1,12 +1,12 @@
 //! Which character of a condition does not read, found by trying what may stand behind each beginning.
 
-use super::condition::settings_of;
+use super::condition::holds;
 use super::PARENTHESES;
 
 /// The smallest number of leading characters that cannot be continued to a condition that reads; the
 /// length plus one if the text only stops too early, zero if it reads.
 pub fn character(text: &[u8], inputs: usize) -> usize {
-    if reads(text, inputs) {
+    if holds(text, inputs, 0).is_some() {
         return 0;
     }
     let stuck = (1..=text.len()).find(|&count| !continues(&text[..count], inputs));
@@ -17,18 +17,15 @@ pub fn character(text: &[u8], inputs: usize) -> usize {
 /// closed parentheses as are open.
 fn continues(text: &[u8], inputs: usize) -> bool {
     let closed = [b')'; PARENTHESES];
-    let ends = |factor: &[u8], open| reads(&[text, factor, &closed[..open]].concat(), inputs);
-    (0..=PARENTHESES).any(|open| ends(b"", open) || ends(b"0", open))
-}
-
-fn reads(text: &[u8], inputs: usize) -> bool {
-    settings_of(text, inputs).is_some()
+    let reads =
+        |factor: &[u8], open| holds(&[text, factor, &closed[..open]].concat(), inputs, 0).is_some();
+    (0..=PARENTHESES).any(|open| reads(b"", open) || reads(b"0", open))
 }
 
 #[cfg(test)]
 mod tests {
-    use super::super::{holds, INPUTS, TEXT};
-    use super::character;
+    use super::super::{INPUTS, TEXT};
+    use super::{character, holds};
     use crate::generate::all_texts;
     use std::collections::BTreeSet;
 

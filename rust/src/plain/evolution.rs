@@ -1,12 +1,10 @@
 //! One evolution asked out of the records that reading handed on.
 
-use super::condition::settings_of;
-use super::is_member;
+use super::condition::holds;
 use crate::Evolution;
 
 /// Whether the condition of an evolution of the records holds at a setting. None does beyond the
-/// records, nor one whose text is not within the file or does not read, nor any at a number that is no
-/// setting of so many inputs, or of the most inputs where more are told.
+/// records, nor one whose text is not within the file or does not read.
 pub fn evolution_holds(
     records: &[Evolution],
     evolution: usize,
@@ -18,6 +16,5 @@ pub fn evolution_holds(
         let at = usize::from(it.at);
         file.get(at..at + usize::from(it.length))
     });
-    let set = text.and_then(|text| settings_of(text, inputs));
-    set.is_some_and(|set| is_member(&set, setting))
+    text.and_then(|text| holds(text, inputs, setting)) == Some(true)
 }

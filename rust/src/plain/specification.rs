@@ -1,31 +1,17 @@
 //! Reading a specification file: checks 1 to 13, its table, words and records.
 
 use super::character::character;
-use super::condition::settings_of;
+use super::condition::holds;
 use super::contents::{Bodies, RECORD_BYTES};
 use super::machine::Machine;
-use super::{check_lengths, is_member, refuse_at, Set};
+use super::{check_lengths, refuse_at, set_of, Set};
 use super::{EVOLUTIONS, NO_MOVE, NO_SETTING, NO_WORD, OUTPUTS, POWER_UP, STATES, TEXT};
 use crate::{Answer, Contents, Evolution, Frame};
 use std::ops::Range;
 
-/// The settings at which a condition of so many inputs holds, or nothing if it does not read.
-pub type SettingsOf = fn(&[u8], usize) -> Option<Set>;
-
 /// Reads a specification file, SEQ1 or SEQ2, into a table, the states' output words and the evolutions'
 /// records.
 pub fn read(
-    file: &[u8],
-    table: &mut [u8],
-    words: &mut [u16],
-    records: &mut [Evolution],
-) -> Contents {
-    read_by(settings_of, file, table, words, records)
-}
-
-/// The same with each condition read in the given way.
-pub fn read_by(
-    settings_of: SettingsOf,
     file: &[u8],
     table: &mut [u8],
     words: &mut [u16],
@@ -39,7 +25,7 @@ pub fn read_by(
     let table = &mut table[..layout.frame.couples()];
     let words = &mut words[..layout.frame.states];
     let records = &mut records[..layout.evolutions];
-    match layout.fill(settings_of, table, words, records) {
+    match layout.fill(table, words, records) {
         Ok(frame) => {
             let Layout { outputs, evolutions, .. } = layout;
             Contents { answer: Answer::done(0), character: 0, outputs, evolutions, frame }
@@ -156,7 +142,6 @@ impl<'a> Layout<'a> {
     /// frame is the file's, with both sets.
     fn fill(
         &self,
-        settings_of: SettingsOf,
         table: &mut [u8],
         words: &mut [u16],
         records: &mut [Evolution],
@@ -164,11 +149,11 @@ impl<'a> Layout<'a> {
         let texts = self.text_places();
         self.copy_records(&texts, words, records);
         self.check_records(words, records)?;
-        let sets = self.read_conditions(settings_of, &texts)?;
-        let (rules, optional) = sets.split_at(self.records() - self.first_text());
+        let unread = |&record: &usize| self.holds(&texts[record], 0).is_none();
+        refuse_at(5, (self.first_text()..texts.len()).find(unread))?;
         self.check_evolutions(records)?;
-        self.fill_table(rules, records, table)?;
-        let machine = Machine { frame: self.whole_frame(optional), moves: table };
+        self.fill_table(&texts[self.first_text()..self.records()], records, table)?;
+        let machine = Machine { frame: self.whole_frame(), moves: table };
         machine.check_transients()?;
         refuse_at(11, (0..words.len()).find(|&state| words[..state].contains(&words[state])))?;
         refuse_at(12, first_unreached(&machine))?;
@@ -176,29 +161,22 @@ impl<'a> Layout<'a> {
         Ok(machine.frame)
     }
 
-    /// Check 5: the set of each condition, from that of the first record that has one.
-    fn read_conditions(
-        &self,
-        settings_of: SettingsOf,
-        texts: &[Range<usize>],
-    ) -> Result<Vec<Set>, Answer> {
-        let set = |record: usize| {
-            let text = &self.file[texts[record].clone()];
-            settings_of(text, self.frame.inputs).ok_or(Answer::refused(5, record))
-        };
-        (self.first_text()..texts.len()).map(set).collect()
-    }
-
     /// The frame with the settings never used, none without kind 5, and the allowed starts, setting 0
-    /// alone without kind 6; the sets are those of the kinds that are there.
-    fn whole_frame(&self, sets: &[Set]) -> Frame {
-        let never = self.bodies.never.as_ref().and(sets.first());
-        let starts = self.bodies.starts.as_ref().and(sets.last());
+    /// alone without kind 6.
+    fn whole_frame(&self) -> Frame {
+        let Bodies { never, starts, .. } = &self.bodies;
+        let set = |text: &Option<Range<usize>>| text.as_ref().map(|text| self.set(text));
         Frame {
-            never: *never.unwrap_or(&NO_SETTING),
-            starts: *starts.unwrap_or(&POWER_UP),
+            never: set(never).unwrap_or(NO_SETTING),
+            starts: set(starts).unwrap_or(POWER_UP),
             ..self.frame
         }
+    }
+
+    /// The settings at which a condition holds.
+    fn set(&self, text: &Range<usize>) -> Set {
+        let settings = 1 << self.frame.inputs;
+        set_of(|setting| setting < settings && self.holds(text, setting) == Some(true))
     }
 
     fn copy_records(&self, texts: &[Range<usize>], words: &mut [u16], records: &mut [Evolution]) {
@@ -233,20 +211,19 @@ impl<'a> Layout<'a> {
         refuse_at(7, again.map(|index| self.frame.states + index))
     }
 
-    /// Checks 8 and 9, and the move of each couple; the sets are those of rest conditions, if there are
-    /// any, then of evolutions.
+    /// Checks 8 and 9, and the move of each couple.
     fn fill_table(
         &self,
-        sets: &[Set],
+        texts: &[Range<usize>],
         records: &[Evolution],
         table: &mut [u8],
     ) -> Result<(), Answer> {
         let mut without = None;
         for state in 0..self.frame.states {
-            let rules = rules_of(state, sets, records);
+            let rules = rules_of(state, texts, records);
             for setting in 0..1 << self.frame.inputs {
                 let couple = state << self.frame.inputs | setting;
-                let mut holding = rules.iter().filter(|rule| is_member(&rule.set, setting));
+                let mut holding = rules.iter().filter(|rule| self.says(rule, setting));
                 match (holding.next(), holding.next()) {
                     (Some(_), Some(_)) => return Err(Answer::refused(8, couple)),
                     (Some(rule), None) => table[couple] = rule.target,
@@ -257,20 +234,28 @@ impl<'a> Layout<'a> {
         }
         refuse_at(9, without)
     }
+
+    fn says(&self, rule: &Rule, setting: usize) -> bool {
+        self.holds(&rule.text, setting) == Some(true)
+    }
+
+    fn holds(&self, text: &Range<usize>, setting: usize) -> Option<bool> {
+        holds(&self.file[text.clone()], self.frame.inputs, setting)
+    }
 }
 
-/// A rule of a state: the settings at which it holds, and the state it moves to.
+/// A rule of a state: where its condition stands, and the state it moves to.
 struct Rule {
-    set: Set,
+    text: Range<usize>,
     target: u8,
 }
 
-/// The rest condition of a state, if the sets begin with those of rest conditions, then its evolutions.
-fn rules_of(state: usize, sets: &[Set], records: &[Evolution]) -> Vec<Rule> {
-    let (rests, evolutions) = sets.split_at(sets.len() - records.len());
-    let rest = rests.get(state).map(|&set| Rule { set, target: state as u8 });
+/// The rest condition of a state, if the texts begin with rest conditions, then its evolutions.
+fn rules_of(state: usize, texts: &[Range<usize>], records: &[Evolution]) -> Vec<Rule> {
+    let (rests, evolutions) = texts.split_at(texts.len() - records.len());
+    let rest = rests.get(state).map(|text| Rule { text: text.clone(), target: state as u8 });
     let leaving = records.iter().zip(evolutions).filter(|(it, _)| usize::from(it.source) == state);
-    let leaving = leaving.map(|(it, &set)| Rule { set, target: it.target });
+    let leaving = leaving.map(|(it, text)| Rule { text: text.clone(), target: it.target });
     rest.into_iter().chain(leaving).collect()
 }
 

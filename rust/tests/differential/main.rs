@@ -4,7 +4,6 @@
 mod both;
 #[path = "../cases/mod.rs"]
 mod cases;
-mod conditions;
 mod evolutions;
 mod lent;
 mod log;

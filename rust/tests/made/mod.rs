@@ -5,23 +5,13 @@ use mundrefol::plain::{Set, COUPLES, EVOLUTIONS, STATES, UNMARKED};
 use mundrefol::{Answer, Contents, Evolution, Frame};
 
 /// Conditions at a number of inputs, with the settings at which they hold.
-pub const SETS: [(u8, &str, Set); 17] = [
+pub const SETS: [(u8, &str, Set); 7] = [
     (1, "a", [2, 0, 0, 0]),
-    (1, "!a", [1, 0, 0, 0]),
-    (2, "!(a.b)", [7, 0, 0, 0]),
     (3, "b.c", [0xc0, 0, 0, 0]),
     (3, "!a", [0x55, 0, 0, 0]),
-    (5, "!e", [0xffff, 0, 0, 0]),
     (6, "f", [!0 << 32, 0, 0, 0]),
-    (6, "a.b.c.d.e.f", [1 << 63, 0, 0, 0]),
-    (6, "!(a.b.c.d.e.f)", [!0 >> 1, 0, 0, 0]),
     (7, "!g", [!0, 0, 0, 0]),
-    (7, "!a.!b.!c.!d.!e.!f.g", [0, 1, 0, 0]),
-    (7, "!(a.b.c.d.e.f)+g", [!0 >> 1, !0, 0, 0]),
     (8, "h", [0, 0, !0, !0]),
-    (8, "g", [0, !0, 0, !0]),
-    (8, "!g.h+a.b.c.d.e.f.g.!h", [0, 1 << 63, !0, 0]),
-    (8, "!(a.b.c.d.e.f.g.h)", [!0, !0, !0, !0 >> 1]),
     (8, "g.!h+a", [0xaaaa_aaaa_aaaa_aaaa, !0, !0 / 3 * 2, !0 / 3 * 2]),
 ];
 

@@ -5,14 +5,13 @@ use borrow.Author.Rules.{rules}
 use borrow.Fn.Kinds.{In}
 use borrow.Fn.PlainCycle.{Measures, is, falls, and}
 use native.Mathlib.Omega.{arith}
-use mathlib.Core.Path.{refl}
-use borrow.Author.Tests.{not-true, not-false}
 use Prim.Native.Nat.{ℕ, ◌+◌, ◌*◌, ◌-◌, ◌<◌}
 use lib.ListN.{length}
 use Rattle.condition.specs.Grammar.{or as orJoin, and as andJoin}
 use Rattle.condition.specs.Condition.{parentheses}
+use Rattle.condition.specs.inner.Parts.{reads, stops}
 use Rattle.condition.proofs.Readings.{Passed, passed_none}
-use Rattle.condition.proofs.Parts.{it-reads, it-stops, negated-found, negated-fails, one-too-many, closed-found, inside-fails, unclosed-fails, join-found, join_more, join-fails}
+use Rattle.condition.proofs.Parts.{is-value, is-bad, negated-found, negated-fails, one-too-many, closed-found, inside-fails, unclosed-fails, join-found, join_more, join-fails}
 use Rattle.condition.proofs.bare.Reads as bare
 use Rattle.condition.proofs.bare.Kinds as bare-kinds
 use Rattle.condition.proofs.+bare_condition_enclosed_factor_term.Lts-bare as bare-lts
@@ -28,13 +27,7 @@ use Rattle.condition.proofs.+bare_condition_enclosed_factor_term.Lts-factor as f
 use Rattle.condition.proofs.term.Reads as term
 use Rattle.condition.proofs.term.Kinds as term-kinds
 use Rattle.condition.proofs.+bare_condition_enclosed_factor_term.Lts-term as term-lts
-use Rattle.sets.proofs.none.Reads as none_reads
-use Rattle.sets.proofs.all.Reads as all-reads
-use Rattle.sets.proofs.both.Reads as both-reads
-use Rattle.sets.proofs.either.Reads as either-reads
-use Rattle.condition.proofs.bad.Reads as bad-reads
 use Rattle.condition.proofs.bangs.Reads as bangs-reads
-use Rattle.condition.proofs.negated.Reads as negated-reads
 use Rattle.condition.proofs.single.Reads as single-Reads
 use Rattle.condition.proofs.stands.Reads as stands-reads
 use Rattle.condition.proofs.+bare_condition_enclosed_factor_term.{statement}
@@ -86,16 +79,16 @@ abbrev term-below : ℕ → In 1 term-kinds.ps
 term-below t = and 1 term-kinds.ps (falls 1 term-kinds.ps ◌<◌ μ-term t) term.Pre
 
 abbrev condition-Inv-loop : condition-lts.invariant-loop
-condition-Inv-loop text at inputs opened any₀ from₀ any from = Passed orJoin inputs (parentheses - opened) text at from any
+condition-Inv-loop text at inputs setting opened any₀ from₀ any from = Passed orJoin inputs setting (parentheses - opened) text at from any
 
 abbrev condition-μ-loop : condition-lts.decreases-loop
-condition-μ-loop text at inputs opened any₀ from₀ any from = length text - from
+condition-μ-loop text at inputs setting opened any₀ from₀ any from = length text - from
 
 abbrev term-Inv-loop : term-lts.invariant-loop
-term-Inv-loop text at inputs opened all₀ from₀ all from = Passed andJoin inputs (parentheses - opened) text at from all
+term-Inv-loop text at inputs setting opened all₀ from₀ all from = Passed andJoin inputs setting (parentheses - opened) text at from all
 
 abbrev term-μ-loop : term-lts.decreases-loop
-term-μ-loop text at inputs opened all₀ from₀ all from = length text - from
+term-μ-loop text at inputs setting opened all₀ from₀ all from = length text - from
 
 pub +bare-condition-enclosed-factor-term-spec : {M : Type 1} → statement M
 +bare-condition-enclosed-factor-term-spec =
@@ -115,63 +108,82 @@ pub +bare-condition-enclosed-factor-term-spec : {M : Type 1} → statement M
     (λ c κs. (c.before.before.before.requires.1, c.before.stands.ensures.fails c.if1.false))
     (λ c. c.single.ensures _))
     (λ t. condition-lts.spec
-    (none_reads.Asked, none_reads.Learnt, term-below t, term.Post, either-reads.Asked, either-reads.Learnt, stands-reads.Asked, stands-reads.Learnt)
+    (term-below t, term.Post, stands-reads.Asked, stands-reads.Learnt)
     (condition-at t)
     condition.Post
     condition-Inv-loop
     condition-μ-loop
+    (λ c. passed_none orJoin)
     (λ c κs. search rules)
-    (λ c. passed_none orJoin c.none.ensures)
+    (λ c. search rules)
+    (λ c. stops (join-fails orJoin c.before.before.before.before.loop.invariant (is-bad c.before.place.given.1 c.before.before.before.term.ensures)))
+    (λ c. search rules)
     (λ c κs. search rules)
-    (λ c. it-stops (not-true _ c.if1.true, refl) (join-fails orJoin c.before.before.before.loop.invariant (c.before.before.term.ensures.stops (not-true _ c.if1.true))))
-    (λ c κs. search rules)
-    (λ c κs. search rules)
-    (λ c. it-reads refl (join-found orJoin c.before.before.before.before.before.before.before.loop.invariant (c.before.before.before.before.before.before.term.ensures.reads (not-false _ c.before.before.before.before.if1.false)) c.before.before.either.ensures (c.before.stands.ensures.fails (not-true _ c.if2.true))))
-    (λ c. let here = c.before.before.stands.ensures.holds (not-false _ c.before.if2.false) in omega arith)
+    (λ c. let here = c.before.stands.ensures.holds c.if1.true in omega arith)
     (λ c.
-    let here = c.before.before.stands.ensures.holds (not-false _ c.before.if2.false) in
-    let x = c.before.before.before.before.before.before.before.term.ensures.reads (not-false _ c.before.before.before.before.before.if1.false) in
+    let here = c.before.stands.ensures.holds c.if1.true in
+    let x = is-value c.before.before.before.holds.given.1 c.before.before.before.before.before.term.ensures in
     omega arith)
-    (λ c. join_more orJoin c.before.before.before.before.before.before.before.before.loop.invariant (c.before.before.before.before.before.before.before.term.ensures.reads (not-false _ c.before.before.before.before.before.if1.false)) c.before.before.before.either.ensures (c.before.before.stands.ensures.holds (not-false _ c.before.if2.false))))
+    (λ c.
+    let x = is-value c.before.before.before.holds.given.1 c.before.before.before.before.before.term.ensures in
+    join_more orJoin c.before.before.before.before.before.before.loop.invariant x (c.before.stands.ensures.holds c.if1.true))
+    (λ c.
+    let x = is-value c.before.before.before.holds.given.1 c.before.before.before.before.before.term.ensures in
+    reads (join-found orJoin c.before.before.before.before.before.before.loop.invariant x (c.before.stands.ensures.fails c.if1.false))))
     (λ t. enclosed-lts.spec
-    (bad-reads.Asked, bad-reads.Learnt, condition-below t, condition.Post, stands-reads.Asked, stands-reads.Learnt)
+    (condition-below t, condition.Post, stands-reads.Asked, stands-reads.Learnt)
     (enclosed-at t)
     enclosed.Post
-    (λ c κs. search rules)
-    (λ c. it-stops c.bad.ensures (one-too-many c.before.before.before.requires.1 (omega arith)))
+    (λ c. stops (one-too-many c.before.before.requires.1 (omega arith)))
     (λ c. let here = c.before.before.requires.1 in omega arith)
     (λ c. search rules)
     (λ c κs. let here = c.before.before.requires.1 in search rules)
-    (λ c. let h = c.before.before.before.if1.false in it-stops (not-true _ c.if2.true, refl) (inside-fails c.before.before.before.before.before.requires.1 (omega arith) (c.before.before.condition.ensures.stops (not-true _ c.if2.true))))
+    (λ c. search rules)
+    (λ c. search rules)
     (λ c κs. search rules)
-    (λ c κs. search rules)
-    (λ c. let h = c.before.before.before.before.before.before.if1.false in it-stops c.bad2.ensures (unclosed-fails c.before.before.before.before.before.before.before.before.requires.1 (omega arith) (c.before.before.before.before.before.condition.ensures.reads (not-false _ c.before.before.before.if2.false)) (c.before.before.stands.ensures.fails (not-true _ c.before.if3.true))))
-    (λ c. let here = c.before.before.before.stands.ensures.holds (not-false _ c.before.before.if3.false) in omega arith)
-    (λ c. let h = c.before.before.before.before.before.before.before.if1.false in it-reads refl (closed-found c.before.before.before.before.before.before.before.before.before.requires.1 (omega arith) (c.before.before.before.before.before.before.condition.ensures.reads (not-false _ c.before.before.before.before.if2.false)) (c.before.before.before.stands.ensures.holds (not-false _ c.before.before.if3.false)))))
+    (λ c. let here = c.before.stands.ensures.holds c.if2.true in omega arith)
+    (λ c.
+    let f = is-bad c.before.place.given.1 c.before.before.before.condition.ensures in
+    let h = c.before.before.before.before.if1.false in
+    stops (inside-fails c.before.before.before.before.before.before.requires.1 (omega arith) f))
+    (λ c.
+    let x = is-value c.before.before.before.holds.given.1 c.before.before.before.before.before.condition.ensures in
+    let h = c.before.before.before.before.before.before.if1.false in
+    reads (closed-found c.before.before.before.before.before.before.before.before.requires.1 (omega arith) x (c.before.stands.ensures.holds c.if2.true)))
+    (λ c.
+    let x = is-value c.before.before.before.holds.given.1 c.before.before.before.before.before.condition.ensures in
+    let h = c.before.before.before.before.before.before.if1.false in
+    stops (unclosed-fails c.before.before.before.before.before.before.before.before.requires.1 (omega arith) x (c.before.stands.ensures.fails c.if2.false))))
     (λ t. factor-lts.spec
-    (bangs-reads.Asked, bangs-reads.Learnt, bare-below t, bare.Post, negated-reads.Asked, negated-reads.Learnt)
+    (bangs-reads.Asked, bangs-reads.Learnt, bare-below t, bare.Post)
     (factor-at t)
     factor.Post
     (λ c κs. search rules)
     (λ c κs. (let k = c.bangs.ensures.0 in omega arith, c.bangs.ensures.1))
-    (λ c κs. search rules)
-    (λ c. record { reads = λ e. negated-found c.before.before.before.bangs.ensures.0 (c.before.before.bare.ensures.reads e) c.negated.ensures; stops = λ e. negated-fails c.before.before.before.bangs.ensures.0 (c.before.before.bare.ensures.stops e) }))
+    (λ c. search rules)
+    (λ c. search rules)
+    (λ c. stops (negated-fails c.before.before.before.before.bangs.ensures.0 (is-bad c.before.place.given.1 c.before.before.before.bare.ensures)))
+    (λ c. reads (negated-found c.before.before.before.before.bangs.ensures.0 (is-value c.before.holds.given.1 c.before.before.before.bare.ensures))))
     λ t. term-lts.spec
-    (all-reads.Asked, all-reads.Learnt, factor-below t, factor.Post, both-reads.Asked, both-reads.Learnt, stands-reads.Asked, stands-reads.Learnt)
+    (factor-below t, factor.Post, stands-reads.Asked, stands-reads.Learnt)
     (term-at t)
     term.Post
     term-Inv-loop
     term-μ-loop
+    (λ c. passed_none andJoin)
     (λ c κs. search rules)
-    (λ c. passed_none andJoin c.all.ensures)
+    (λ c. search rules)
+    (λ c. stops (join-fails andJoin c.before.before.before.before.loop.invariant (is-bad c.before.place.given.1 c.before.before.before.factor.ensures)))
+    (λ c. search rules)
     (λ c κs. search rules)
-    (λ c. it-stops (not-true _ c.if1.true, refl) (join-fails andJoin c.before.before.before.loop.invariant (c.before.before.factor.ensures.stops (not-true _ c.if1.true))))
-    (λ c κs. search rules)
-    (λ c κs. search rules)
-    (λ c. it-reads refl (join-found andJoin c.before.before.before.before.before.before.before.loop.invariant (c.before.before.before.before.before.before.factor.ensures.reads (not-false _ c.before.before.before.before.if1.false)) c.before.before.both.ensures (c.before.stands.ensures.fails (not-true _ c.if2.true))))
-    (λ c. let here = c.before.before.stands.ensures.holds (not-false _ c.before.if2.false) in omega arith)
+    (λ c. let here = c.before.stands.ensures.holds c.if1.true in omega arith)
     (λ c.
-    let here = c.before.before.stands.ensures.holds (not-false _ c.before.if2.false) in
-    let x = c.before.before.before.before.before.before.before.factor.ensures.reads (not-false _ c.before.before.before.before.before.if1.false) in
+    let here = c.before.stands.ensures.holds c.if1.true in
+    let x = is-value c.before.before.before.holds.given.1 c.before.before.before.before.before.factor.ensures in
     omega arith)
-    (λ c. join_more andJoin c.before.before.before.before.before.before.before.before.loop.invariant (c.before.before.before.before.before.before.before.factor.ensures.reads (not-false _ c.before.before.before.before.before.if1.false)) c.before.before.before.both.ensures (c.before.before.stands.ensures.holds (not-false _ c.before.if2.false)))
+    (λ c.
+    let x = is-value c.before.before.before.holds.given.1 c.before.before.before.before.before.factor.ensures in
+    join_more andJoin c.before.before.before.before.before.before.loop.invariant x (c.before.stands.ensures.holds c.if1.true))
+    (λ c.
+    let x = is-value c.before.before.before.holds.given.1 c.before.before.before.before.before.factor.ensures in
+    reads (join-found andJoin c.before.before.before.before.before.before.loop.invariant x (c.before.stands.ensures.fails c.if1.false)))

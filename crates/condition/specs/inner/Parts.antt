@@ -2,9 +2,9 @@
 use Rattle.std.specs.Prelude.{ℕ, suc, ◌+◌, ◌≤◌, ◌<◌, ◌≡◌, List, [], ◌∷◌, ◌++◌, Bool, true, false, not, length, take, drop, get_or}
 -- the byte of a character, for the contracts too
 pub use Prim.Native.Char.{code}
-use Rattle.sets.specs.Sets.{words, MembersOf}
 use Rattle.condition.specs.Grammar.{Level, or, and, factor, joined, byte, Tree, text, opened, Below, holds}
 use Rattle.condition.specs.declared.Part.{Part}
+use Rattle.condition.specs.declared.Part.TheVariants.{Value, Bad}
 
 -- w does not begin with c
 abbrev pub NotFirst : ℕ → List ℕ → Type 0
@@ -28,13 +28,13 @@ Ends factor r = Unit
 Ends (joined and) r = NotFirst (byte and) r
 Ends (joined or) r = NotFirst (byte and) r × NotFirst (byte or) r
 
--- from `at` to `end` stands a part of level l, and `set` is that of the settings at which it holds
-pub record FoundTo (l : Level) (n d : ℕ) (s : List ℕ) (at : ℕ) (set : List ℕ) (end : ℕ) : Type 0 where
+-- from `at` to `end` stands a part of level l, and it says b at the setting v
+pub record FoundTo (l : Level) (n v d : ℕ) (s : List ℕ) (at : ℕ) (b : Bool) (end : ℕ) : Type 0 where
   pub later : at < end
   pub within : end ≤ length s
   pub ends : Ends l (drop end s)
   pub reading : Reading l n d (drop at s) (drop end s)
-  pub value : MembersOf words (λ v. holds v reading.tree) set
+  pub value : holds v reading.tree ≡ b
 
 -- w does not begin with a part of level l: its first m characters can be continued to one, and no list with the same first m + 1
 -- characters, or the same end, begins with one
@@ -50,9 +50,9 @@ pub record FailedAt (l : Level) (n d : ℕ) (s : List ℕ) (at place : ℕ) : Ty
   pub failed : Failed l n d (drop at s) passed
 
 -- what reading a part of level l at `at` finds
-pub record Found (l : Level) (n d : ℕ) (s : List ℕ) (at : ℕ) (p : Part) : Type 0 where
-  pub reads : p.reads ≡ true → FoundTo l n d s at p.set p.place
-  pub stops : p.reads ≡ false → FailedAt l n d s at p.place
+pub data Found (l : Level) (n v d : ℕ) (s : List ℕ) (at : ℕ) : Part → Type 0 where
+  reads : {b : Bool} {end : ℕ} → FoundTo l n v d s at b end → Found l n v d s at (Value b end)
+  stops : {place : ℕ} → FailedAt l n d s at place → Found l n v d s at (Bad place)
 
 -- b, negated where negates is true
 abbrev pub flipped : Bool → Bool → Bool
@@ -65,6 +65,6 @@ pub record Skipped (s : List ℕ) (at : ℕ) (negates : Bool) (end : ℕ) : Type
   pub bangs : List ℕ
   pub count : end ≡ at + length bangs
   pub spelt : drop at s ≡ bangs ++ drop end s
-  pub wrap : (n d : ℕ) (u r : List ℕ) (x : Reading factor n d u r)
-      → (y : Reading factor n d (bangs ++ u) r) × ((v : ℕ) → holds v y.tree ≡ flipped negates (holds v x.tree))
+  pub wrap : (n v d : ℕ) (u r : List ℕ) (x : Reading factor n d u r)
+      → (y : Reading factor n d (bangs ++ u) r) × (holds v y.tree ≡ flipped negates (holds v x.tree))
   pub strip : (n d : ℕ) (u r : List ℕ) → Reading factor n d (bangs ++ u) r → Reading factor n d u r

@@ -1,15 +1,13 @@
 -- `met` asks the part of the file that a record names, where it lies within the file.
 use borrow.Author.Rules.{rules}
 use native.Mathlib.Omega.{arith}
-use mathlib.Core.Path.{◌≡◌, sym, ap₂, subst}
+use mathlib.Core.Path.{◌≡◌, ap₂, subst}
 use mathlib.Core.List.{List}
 use Prim.Native.Nat.{ℕ, ◌+◌, ◌-◌}
 use lib.ListN.{take, drop}
 use Rattle.verdict.proofs.Tests.{it_fails, decides_map}
 use Rattle.condition.specs.Condition.{Holds}
 use Rattle.verdict.specs.Checks.{Decides}
-use Rattle.condition.proofs.Says.{set_holds}
-use Rattle.evolutions.specs.Evolutions.{Met}
 use Rattle.evolutions.proofs.met.Statement.{statement}
 use Rattle.evolutions.proofs.met.Tie as tie
 
@@ -22,11 +20,8 @@ returns c = it_fails λ m. omega (arith, m.inside)
 
 returns-2 : tie.Need-returns-2
 returns-2 c =
-    let a = c.before.before.before.before.before.before.before.before.args in
-    let d = set_holds c.before.before.read.ensures a.setting in
-    let e = part a.file.now c.before.before.before.before.before.before.long.ensures.0 c.before.before.before.before.before.wide.ensures.0 in
-    subst (Decides (Met a.file.now a.e a.inputs a.setting)) (sym c.has.ensures)
-    (decides_map (λ h. record { inside = omega arith; setting = h.0; holds = subst (Holds a.inputs a.setting) e h.1 }) (λ m. (m.setting, subst (Holds a.inputs a.setting) (sym e) m.holds)) d)
+    decides_map (λ h. record { inside = omega arith; holds = h }) (λ m. m.holds)
+    (subst (λ (t : List ℕ). Decides (Holds c.before.before.before.before.before.before.args.inputs c.before.before.before.before.before.before.args.setting t) c.holds.result) (part c.before.before.before.before.before.before.args.file.now c.before.before.before.before.long.ensures.0 c.before.before.before.wide.ensures.0) c.holds.ensures)
 
 pub met-spec : {M : Type 1} → statement M
 met-spec =
@@ -39,6 +34,5 @@ met-spec =
     (λ c. search rules)
     (λ c. search rules)
     (λ c. search rules)
-    (λ c κs. search rules)
     (λ c κs. search rules)
     returns-2)

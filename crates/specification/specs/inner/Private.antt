@@ -1,20 +1,17 @@
 -- What private functions require and answer.
-use Rattle.std.specs.Prelude.{◌≡◌, true, false, cond, List, [], ◌∷◌, ◌++◌, ℕ, ◌+◌, ◌*◌, ◌-◌, ◌≤◌, ◌<◌, length, get_or, ltb}
+use Rattle.std.specs.Prelude.{◌≡◌, true, false, cond, List, ◌∷◌, ◌++◌, ℕ, ◌+◌, ◌-◌, ◌≤◌, ◌<◌, length, get_or, ltb}
 use Rattle.verdict.specs.Checks.{Check, check, Judged, Passed}
 use Rattle.verdict.specs.Buffers.{Left}
 use Rattle.verdict.specs.declared.Answer.{Answer}
-use Rattle.verdict.specs.Below.{sum_to}
 use Rattle.sets.specs.Sets.{words, SetOf}
-use Rattle.condition.specs.Condition.{Holds}
-use Rattle.machine.specs.Limits.{most_states}
 use Rattle.machine.specs.Couples.{Couple}
 use Rattle.machine.specs.Moves.{table_moves, Stateless, Transient}
 use Rattle.machine.specs.Runs.{Machine, size}
 use Rattle.tables.specs.Tables.{state_checks}
-use Rattle.specification.specs.Limits.{most_evolutions, most_bytes, blank_move, blank_word}
+use Rattle.specification.specs.Limits.{most_bytes, blank_move, blank_word}
 use Rattle.specification.specs.File.{count_of, kind_of, length_of, start_of, kinds, starts_kind, Has, WellFormed}
-use Rattle.specification.specs.Records.{word, source, target, settings, couples, records, record_at, sizes_of, text_length, Ranges, Beyond, Own}
-use Rattle.specification.specs.Rules.{texts_at, text_at, condition_of, rule_of, Fires, MoveAt, HoldsIn}
+use Rattle.specification.specs.Records.{word, settings, couples, records, record_at, sizes_of, Ranges, Beyond, Own, Twice}
+use Rattle.specification.specs.Rules.{text_at, rule_of, Fires, MoveAt, HoldsIn}
 use Rattle.specification.specs.Reading.{record_checks, rule_checks, move_checks, CharacterFor, refusal_of, ContentsOf, ReadHere}
 use Rattle.specification.specs.declared.file.Bodies.{Bodies}
 use Rattle.specification.specs.declared.records.Sizes.{Sizes}
@@ -38,63 +35,44 @@ pub record Decoded (file : List ℕ) (b : Bodies) : Type 0 where
   pub at : (k : ℕ) → k < count_of file → get_or b.at k 0 ≡ start_of file k
   pub long : (k : ℕ) → k < count_of file → get_or b.length k 0 ≡ length_of file k
 
--- so many records at most, and so many conditions: those of the records, and two bodies
-abbrev pub most_records : ℕ
-most_records = most_states + most_evolutions
-
-abbrev pub most_conditions : ℕ
-most_conditions = most_records + (most_kinds - kinds)
-
--- the checks of single records: refusals 4 and 6 at record r
+-- the checks of single records: refusals 4, 6 and 7 at record r
 abbrev pub Wrong : List ℕ → Sizes → RecordCheck → ℕ → Type 0
 Wrong file z RecordCheck.TheVariants.Beyond r = Beyond file z r
 Wrong file z RecordCheck.TheVariants.Own r = Own file z r
+Wrong file z RecordCheck.TheVariants.Twice r = Twice file z r
 
--- pairs of a source and a target: so many at most, and the number of record r's
-abbrev pub most_pairs : ℕ
-most_pairs = most_states * most_states
-
-abbrev pub pair_of : List ℕ → Sizes → ℕ → ℕ
-pair_of file z r = source file z r * most_states + target file z r
-
--- what a file that passes 1 and 2 has: the texts of its records lie in it, and end where the bodies beyond kind 4 begin
+-- what a file that passes 1 and 2 has: the texts of its records lie in it
 pub record Laid (file : List ℕ) (z : Sizes) : Type 0 where
   pub formed : WellFormed file
   pub ranges : Ranges z
   pub counted : z.more ≡ count_of file - kinds
   pub worded : z.worded ≤ z.states
   pub texts : text_at file z (records z) ≤ length file
-  pub ends : text_at file z (records z) ≡ start_of file kinds
   pub few : length file ≤ most_bytes
 
--- the conditions stand end to end: the texts of the records, then each body beyond kind 4
-unfoldable pub condition_length : List ℕ → Sizes → ℕ → ℕ
-condition_length file z r = cond (ltb r (records z)) (text_length file z r) (length_of file (kinds + (r - records z)))
-
-abbrev pub condition_at : List ℕ → Sizes → ℕ → ℕ
-condition_at file z r = texts_at z + sum_to (condition_length file z) r
-
--- of each condition below n its set is kept, the settings at which it holds
-pub record Kept (file : List ℕ) (z : Sizes) (n : ℕ) (kept : List (List ℕ)) : Type 0 where
-  pub each : (r : ℕ) → z.worded ≤ r → r < n → SetOf words (settings z) (λ v. Holds z.inputs v (condition_of file z r)) (get_or kept r [])
+-- and where each text begins, and the last one ends
+pub record Placed (file : List ℕ) (z : Sizes) (places : List ℕ) : Type 0 where
+  pub laid : Laid file z
+  pub at : (r : ℕ) → r ≤ records z → get_or places r 0 ≡ text_at file z r
 
 -- the set by the body of a kind: the settings at which it holds, or another set where there is no such body
 pub data SetIn (file : List ℕ) (z : Sizes) (kind : ℕ) (otherwise set : List ℕ) : Type 0 where
   there : Has file kind → SetOf words (settings z) (HoldsIn file z kind) set → SetIn file z kind otherwise set
   without : (Has file kind → ⊥) → set ≡ otherwise → SetIn file z kind otherwise set
 
--- record r is a rule of the state s that has a condition, as the records from `worded` on have
-pub record WordedRule (file : List ℕ) (z : Sizes) (s r : ℕ) : Type 0 where
-  pub rule : rule_of file z r ≡ s
-  pub worded : z.worded ≤ r
+-- n is the next rule, after record r, of the state that r is a rule of; the number of records where there is none
+pub record Follows (file : List ℕ) (z : Sizes) (r n : ℕ) : Type 0 where
+  pub after : r < n
+  pub upto : n ≤ records z
+  pub same : n < records z → rule_of file z n ≡ rule_of file z r
+  pub between : (q : ℕ) → q < n → r < q → rule_of file z q ≡ rule_of file z r → ⊥
 
--- the first n elements of a list are the numbers below k that are F, in their order
-pub record Gathered (F : ℕ → Type 0) (k n : ℕ) (list : List ℕ) : Type 0 where
-  pub few : n ≤ k
-  pub below : (i : ℕ) → i < n → get_or list i 0 < k
-  pub each : (i : ℕ) → i < n → F (get_or list i 0)
-  pub rising : (i j : ℕ) → i < j → j < n → get_or list i 0 < get_or list j 0
-  pub all : (r : ℕ) → r < k → F r → (i : ℕ) × (i < n) × (get_or list i 0 ≡ r)
+pub record Linked (file : List ℕ) (z : Sizes) (next : List ℕ) : Type 0 where
+  pub at : (r : ℕ) → r < records z → Follows file z r (get_or next r 0)
+
+-- the first rule of the state s that has a condition, as the records from `worded` on have
+abbrev pub first_rule : List ℕ → ℕ → ℕ → ℕ
+first_rule next worded s = cond (ltb s worded) (get_or next s 0) s
 
 -- what stands for the state s where none of its rules that have a condition holds: s itself if it has no rest condition, or the blank
 abbrev pub rest_of : ℕ → ℕ → ℕ

@@ -1,40 +1,33 @@
--- `set_in` is the set that is kept of the body whose entry it finds: a kind has one entry, and its condition is numbered by it.
+-- `set_in` is the set of the body whose entry it finds: a kind has one entry, and its body is the part of the file from its offset on.
 use borrow.Author.Rules.{rules}
 use native.Mathlib.Omega.{arith}
-use mathlib.Core.Path.{◌≡◌, refl, ap, ◌∙◌}
-use Prim.Native.Nat.{◌+◌, ◌-◌}
+use mathlib.Core.Path.{refl}
 use Rattle.verdict.proofs.Tests.{at_least, found_none}
-use Rattle.specification.specs.File.{kinds, body_of}
-use Rattle.specification.specs.Records.{records}
 use Rattle.specification.specs.inner.Private.{there, without}
-use Rattle.specification.proofs.Conditions.{conditions-few, entry-numbered, condition-body}
-use Rattle.specification.proofs.Entries.{entry-beyond}
-use Rattle.specification.proofs.Optional.{kind-set}
+use Rattle.specification.proofs.Optional.{offset-within, body_at, kind-set}
 use Rattle.specification.proofs.frames.set_in.Statement.{statement}
 use Rattle.specification.proofs.frames.set_in.Tie as tie
 
 returns : tie.Need-returns
 returns c = without (λ h. (found_none c.before.before.entry_of.ensures c.enum_told.given.1).nowhere h.0 h.1) refl
 
-sub-result : tie.Need-overflow-sub-result
-sub-result c = entry-beyond c.before.before.before.before.before.before.requires.0.formed.entries c.before.before.before.before.before.before.requires.2 (at_least c.before.before.before.before.entry_of.ensures c.before.before.k.given.1).here
+offset-of-requires : tie.Need-offset-of-requires
+offset-of-requires c κs = ((at_least c.before.before.before.entry_of.ensures c.before.k.given.1).here.there, c.before.before.before.before.before.pre.formed.headed.enough)
 
-add-result-2 : tie.Need-overflow-add-result-2
-add-result-2 c = let o = (at_least c.before.before.before.before.entry_of.ensures c.before.before.k.given.1).here in omega (arith, entry-numbered c.before.before.before.before.before.before.requires.0 (entry-beyond c.before.before.before.before.before.before.requires.0.formed.entries c.before.before.before.before.before.before.requires.2 o) o.there, conditions-few c.before.before.before.before.before.before.requires.0)
+length-of-requires : tie.Need-length-of-requires
+length-of-requires c κs = ((at_least c.before.before.before.before.entry_of.ensures c.before.before.k.given.1).here.there, c.before.before.before.before.before.before.pre.formed.headed.enough)
 
-mul-result : tie.Need-overflow-mul-result
-mul-result c = let o = (at_least c.before.before.before.before.entry_of.ensures c.before.before.k.given.1).here in omega (arith, entry-numbered c.before.before.before.before.before.before.requires.0 (entry-beyond c.before.before.before.before.before.before.requires.0.formed.entries c.before.before.before.before.before.before.requires.2 o) o.there, conditions-few c.before.before.before.before.before.before.requires.0)
+add-set-of : tie.Need-add-set-of
+add-set-of c = omega (arith, offset-within c.before.before.before.before.before.before.before.pre.formed.entries (at_least c.before.before.before.before.before.entry_of.ensures c.before.before.before.k.given.1).here.there c.before.offset-of.ensures c.length-of.ensures.0, c.before.before.before.before.before.before.before.pre.few)
 
-element-copy-out-result : tie.Need-element-copy-out-result
-element-copy-out-result c = let o = (at_least c.before.before.before.before.entry_of.ensures c.before.before.k.given.1).here in omega (arith, entry-numbered c.before.before.before.before.before.before.requires.0 (entry-beyond c.before.before.before.before.before.before.requires.0.formed.entries c.before.before.before.before.before.before.requires.2 o) o.there, conditions-few c.before.before.before.before.before.before.requires.0)
+part-set-of-end : tie.Need-part-set-of-end
+part-set-of-end c = offset-within c.before.before.before.before.before.before.before.pre.formed.entries (at_least c.before.before.before.before.before.entry_of.ensures c.before.before.before.k.given.1).here.there c.before.offset-of.ensures c.length-of.ensures.0
 
 returns-2 : tie.Need-returns-2
 returns-2 c =
-    let o = (at_least c.before.before.before.before.before.entry_of.ensures c.before.before.before.k.given.1).here in
-    let r = records c.before.before.before.before.before.before.before.args.z + (c.before.before.before.k.given.0.0 - kinds) in
-    let b = entry-beyond c.before.before.before.before.before.before.before.requires.0.formed.entries c.before.before.before.before.before.before.before.requires.2 o in
-    let e : kinds + (r - records c.before.before.before.before.before.before.before.args.z) ≡ c.before.before.before.k.given.0.0 = omega arith in
-    there (_, o) (kind-set c.before.before.before.before.before.before.before.requires.0.formed.entries o (condition-body _ _ r (omega arith) ∙ ap (body_of c.before.before.before.before.before.before.before.args.file.now) e) (c.before.before.before.before.before.before.before.requires.1.each r (omega (arith, c.before.before.before.before.before.before.before.requires.0.worded)) (entry-numbered c.before.before.before.before.before.before.before.requires.0 b o.there)))
+    let p = c.before.before.before.before.before.before.before.before.before.pre in
+    let o = (at_least c.before.before.before.before.before.before.before.entry_of.ensures c.before.before.before.before.before.k.given.1).here in
+    there (_, o) (kind-set p.formed.entries o (body_at p.formed.entries o.there c.before.before.before.offset-of.ensures c.before.before.length-of.ensures.0) (c.set-of.ensures.0 p.ranges.few_inputs))
 
 pub set-in-spec : {M : Type 1} → statement M
 set-in-spec =
@@ -44,9 +37,11 @@ set-in-spec =
     (λ c. search rules)
     (λ c. search rules)
     returns
+    offset-of-requires
+    length-of-requires
+    add-set-of
     (λ c. search rules)
-    sub-result
-    add-result-2
-    mul-result
-    element-copy-out-result
+    (λ c. search rules)
+    part-set-of-end
+    (λ c κs. search rules)
     returns-2)

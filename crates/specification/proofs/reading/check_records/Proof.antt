@@ -1,43 +1,28 @@
--- `check_records` goes through refusals 4 to 7: each search passes on to the next, or halts at the least place. Where all pass, each
--- condition reads, and its set is kept.
+-- `check_records` goes through refusals 4 to 7: each search passes on to the next, or halts at the least place.
 use borrow.Author.Rules.{rules}
-use native.Mathlib.Omega.{arith}
 use mathlib.Core.Path.{refl}
 use Rattle.verdict.proofs.Order.{judged_on, judged_stop, pass, halt, ends}
 use Rattle.verdict.proofs.Tests.{at_least, found_none}
 use Rattle.specification.proofs.reading.check_records.Statement.{statement}
 use Rattle.specification.proofs.reading.check_records.Tie as tie
 
-returns : tie.Need-returns
-returns c = (halt (at_least c.before.before.before.first-wrong.ensures c.before.p.given.1), λ e. absurd (omega arith))
-
 returns-2 : tie.Need-returns-2
-returns-2 c = (pass (found_none c.before.before.before.before.before.before.first-wrong.ensures c.before.before.before.before.enum_told.given.1) (judged_stop _ c.before.before.read-texts.ensures.0 c.if1.true), λ e. absurd (c.if1.true e))
+returns-2 c = pass (found_none c.before.before.before.before.before.first-wrong.ensures c.before.before.before.enum_told.given.1) (judged_stop _ c.before.before.check-texts.ensures c.if1.true)
 
 returns-3 : tie.Need-returns-3
-returns-3 c = (
-  pass (found_none c.before.before.before.before.before.before.before.before.before.before.first-wrong.ensures c.before.before.before.before.before.before.before.before.enum_told.given.1) (judged_on 5 c.before.before.before.before.before.before.read-texts.ensures.0 refl c.before.before.before.before.if1.false
-      (halt (at_least c.before.before.before.first-wrong2.ensures c.before.p2.given.1))),
-  λ e. absurd (omega arith),
-)
-
--- no record is beyond
-first-twice-requires : tie.Need-first-twice-requires
-first-twice-requires c κs = (search rules, found_none c.before.before.before.before.before.before.before.before.before.first-wrong.ensures c.before.before.before.before.before.before.before.enum_told.given.1)
+returns-3 c =
+    pass (found_none c.before.before.before.before.before.before.before.before.before.first-wrong.ensures c.before.before.before.before.before.before.before.enum_told.given.1) (judged_on 5 c.before.before.before.before.before.before.check-texts.ensures refl c.before.before.before.before.if1.false
+    (halt (at_least c.before.before.before.first-wrong2.ensures c.before.p2.given.1)))
 
 returns-4 : tie.Need-returns-4
-returns-4 c = (
-  pass (found_none c.before.before.before.before.before.before.before.before.before.before.before.before.before.first-wrong.ensures c.before.before.before.before.before.before.before.before.before.before.before.enum_told.given.1) (judged_on 5 c.before.before.before.before.before.before.before.before.before.read-texts.ensures.0 refl c.before.before.before.before.before.before.before.if1.false
-      (pass (found_none c.before.before.before.before.before.before.first-wrong2.ensures c.before.before.before.before.enum-told2.given.1) (halt (at_least c.before.before.before.first-twice.ensures c.before.p3.given.1)))),
-  λ e. absurd (omega arith),
-)
+returns-4 c =
+    pass (found_none c.before.before.before.before.before.before.before.before.before.before.before.before.first-wrong.ensures c.before.before.before.before.before.before.before.before.before.before.enum_told.given.1) (judged_on 5 c.before.before.before.before.before.before.before.before.before.check-texts.ensures refl c.before.before.before.before.before.before.before.if1.false
+    (pass (found_none c.before.before.before.before.before.before.first-wrong2.ensures c.before.before.before.before.enum-told2.given.1) (halt (at_least c.before.before.before.first-wrong3.ensures c.before.p3.given.1))))
 
 returns-5 : tie.Need-returns-5
-returns-5 c = (
-  pass (found_none c.before.before.before.before.before.before.before.before.before.before.before.before.first-wrong.ensures c.before.before.before.before.before.before.before.before.before.before.enum_told.given.1) (judged_on 5 c.before.before.before.before.before.before.before.before.read-texts.ensures.0 refl c.before.before.before.before.before.before.if1.false
-      (pass (found_none c.before.before.before.before.before.first-wrong2.ensures c.before.before.before.enum-told2.given.1) (pass (found_none c.before.before.first-twice.ensures c.enum-told3.given.1) ends))),
-  λ _. c.before.before.before.before.before.before.before.before.read-texts.ensures.1 c.before.before.before.before.before.before.if1.false,
-)
+returns-5 c =
+    pass (found_none c.before.before.before.before.before.before.before.before.before.before.before.first-wrong.ensures c.before.before.before.before.before.before.before.before.before.enum_told.given.1) (judged_on 5 c.before.before.before.before.before.before.before.before.check-texts.ensures refl c.before.before.before.before.before.before.if1.false
+    (pass (found_none c.before.before.before.before.before.first-wrong2.ensures c.before.before.before.enum-told2.given.1) (pass (found_none c.before.before.first-wrong3.ensures c.enum-told3.given.1) ends)))
 
 pub check-records-spec : {M : Type 1} → statement M
 check-records-spec =
@@ -45,7 +30,7 @@ check-records-spec =
     (tie.spec
     (λ c κs. search rules)
     (λ c. search rules)
-    returns
+    (λ c. halt (at_least c.before.before.before.first-wrong.ensures c.before.p.given.1))
     (λ c. search rules)
     (λ c κs. search rules)
     returns-2
@@ -53,7 +38,7 @@ check-records-spec =
     (λ c. search rules)
     returns-3
     (λ c. search rules)
-    first-twice-requires
+    (λ c κs. search rules)
     (λ c. search rules)
     returns-4
     (λ c. search rules)

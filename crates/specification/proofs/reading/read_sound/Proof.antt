@@ -8,17 +8,16 @@ use Rattle.specification.proofs.reading.read_sound.Statement.{statement}
 use Rattle.specification.proofs.reading.read_sound.Tie as tie
 
 returns : tie.Need-returns
-returns c =
-    let s = c.before.before.before.before.before.before.before.before.before.before.before.before.before.before.before.settle.ensures in
-    let k = judged_number 4 13 s.0 refl c.before.before.before.before.before.before.before.before.before.if1.true in
-    let table = left-blank k.0 k.1 s.1.1.0 (filled_at c.before.before.before.before.before.before.blank-table.ensures c.before.before.before.before.before.before.before.couples.ensures) in
-    (record { judged = s.0; table = table; words = left-blank k.0 k.1 s.1.1.1 c.before.before.blank-words.ensures }, s.1.0)
+returns c = let k = judged_number 4 13 c.before.before.before.before.before.before.before.before.before.before.before.before.before.before.before.settle.ensures.0 refl c.before.before.before.before.before.before.before.before.before.if1.true in
+    record {
+      judged = c.before.before.before.before.before.before.before.before.before.before.before.before.before.before.before.settle.ensures.0;
+      table = left-blank k.0 k.1 c.before.before.before.before.before.before.before.before.before.before.before.before.before.before.before.settle.ensures.1.0 (filled_at c.before.before.before.before.before.before.blank-table.ensures c.before.before.before.before.before.before.before.couples.ensures);
+      words = left-blank k.0 k.1 c.before.before.before.before.before.before.before.before.before.before.before.before.before.before.before.settle.ensures.1.1 c.before.before.blank-words.ensures;
+    }
 
 returns-2 : tie.Need-returns-2
-returns-2 c =
-    let s = c.before.before.before.before.before.before.settle.ensures in
-    let e = c.if1.false in
-    (record { judged = s.0; table = left-filled (inl e) (filled_map (λ k x h y. y e) s.1.1.0); words = left-filled (inl e) (filled_map (λ k x h y. y e) s.1.1.1) }, s.1.0)
+returns-2 c = let e = c.if1.false in
+    record { judged = c.before.before.before.before.before.before.settle.ensures.0; table = left-filled (inl e) (filled_map (λ k x h y. y e) c.before.before.before.before.before.before.settle.ensures.1.0); words = left-filled (inl e) (filled_map (λ k x h y. y e) c.before.before.before.before.before.before.settle.ensures.1.1) }
 
 pub read-sound-spec : {M : Type 1} → statement M
 read-sound-spec =

@@ -1,2 +1,0 @@
--- What proofs and private contracts cite, and no public promise.
-pub mod Word
