@@ -1,4 +1,6 @@
 // What C and Rust link (include/mundrefol.h): thin exports over the proved libraries.
+#![tactic(auto)]
+
 ghost use Rattle.std.specs.Prelude.{◌≡◌, true, get_or};
 ghost use Rattle.verdict.specs.Checks.{Decides};
 ghost use Rattle.machine.specs.Runs.{machine_of, machine_by};
@@ -20,7 +22,7 @@ use verdict::Answer;
 
 // What an update of a log answers: its number and place, and kind 0 for equal, 1 for stored, 2 for full, 3 with a refusal.
 #[repr(C)]
-#[derive(Drop)]
+#[derive(Clone, Copy)]
 pub struct Noted {
     pub number: usize,
     pub place: usize,

@@ -1,4 +1,6 @@
 // The outputs of a word, numbers from one width to another, each cast once for every crate, and an element of a lent list.
+#![tactic(auto)]
+
 ghost use Rattle.std.specs.Prelude.{◌≡◌, ◌%◌, ◌<◌, ◌^◌, get_or};
 
 // The outputs of a word, and the most of a file.

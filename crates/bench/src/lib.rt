@@ -1,4 +1,6 @@
 // The bench log: one record, lent to the bench and updated at each reading.
+#![tactic(auto)]
+
 ghost use Rattle.std.specs.Prelude.{◌≡◌};
 ghost use Rattle.bench.specs.Log.{outcome, update_of};
 ghost use Rattle.bench.specs.History.{fresh_log};
@@ -17,7 +19,7 @@ pub const READINGS: u32 = 4294967295;
 
 // A reading as the bench gives it: run, change, first or second reading, and the two words. Runs count from 1; the start's reading is change 0, first.
 #[repr(C)]
-#[derive(Drop)]
+#[derive(Clone, Copy)]
 pub struct Reading {
     pub run: u16,
     pub change: u16,
@@ -28,7 +30,7 @@ pub struct Reading {
 
 // Readings, differing readings, entries kept, the first 32 differences, and the readings in which each output differed.
 #[repr(C)]
-#[derive(Drop)]
+#[derive(Clone, Copy)]
 pub struct Log {
     pub readings: u32,
     pub differing: u32,
@@ -38,7 +40,7 @@ pub struct Log {
 }
 
 // What an update answers; `Refused` is number 18.
-#[derive(Drop)]
+#[derive(Clone, Copy)]
 pub enum Noted {
     Equal,
     Stored,
@@ -47,7 +49,7 @@ pub enum Noted {
 }
 
 // An answer, and the log after it.
-#[derive(Drop)]
+#[derive(Clone, Copy)]
 pub struct Stepped {
     pub answer: Noted,
     pub log: Log,

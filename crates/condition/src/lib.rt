@@ -2,6 +2,8 @@
 //
 // One function for each level of the grammar. Each reads the part that begins at `at`, where `opened` parentheses are open, and
 // loops over what its level joins; the levels come round again only inside a parenthesis.
+#![tactic(auto)]
+
 ghost use Rattle.std.specs.Prelude.{ℕ, ◌-◌};
 ghost use Rattle.verdict.specs.Checks.{Decides};
 ghost use Rattle.condition.specs.Grammar.{condition as conditionLevel, term as termLevel, factor as factorLevel};
@@ -15,21 +17,21 @@ use machine::INPUTS;
 pub const PARENTHESES: usize = 8;
 
 // What a text says: whether its condition holds; or that it does not read, and at which character, counted from 1.
-#[derive(Drop)]
+#[derive(Clone, Copy)]
 pub enum Meaning {
     Is(bool),
     Unread(usize),
 }
 
 // What reading a part found: whether it holds, and where it ends; or the place of the character that it cannot go on with.
-#[derive(Drop)]
+#[derive(Clone, Copy)]
 enum Part {
     Value(bool, usize),
     Bad(usize),
 }
 
 // Whether the `!` before a factor negate it, and where they end.
-#[derive(Drop)]
+#[derive(Clone, Copy)]
 struct Negation {
     negates: bool,
     end: usize,

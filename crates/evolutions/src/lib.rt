@@ -1,4 +1,6 @@
 // The evolutions of a file as records, and whether the condition of one holds (document 01, "Specification file").
+#![tactic(auto)]
+
 ghost use Rattle.std.specs.Prelude.{◌≡◌, get_or};
 ghost use Rattle.verdict.specs.Checks.{Decides};
 ghost use Rattle.evolutions.specs.Evolutions.{blank, Met};
@@ -8,7 +10,7 @@ use condition::holds;
 
 // An evolution: its source and target, the place in the file and the length of its condition.
 #[repr(C)]
-#[derive(Drop)]
+#[derive(Clone, Copy)]
 pub struct Evolution {
     pub source: u8,
     pub target: u8,

@@ -1,4 +1,6 @@
 // The settings at which a condition holds, as a set.
+#![tactic(auto)]
+
 ghost use Rattle.std.specs.Prelude.{◌+◌, ◌^◌, ◌≤◌, ◌<◌};
 ghost use Rattle.sets.specs.Sets.{words, most_members, SetOf};
 ghost use Rattle.machine.specs.Limits.{most_inputs};

@@ -1,4 +1,6 @@
 // The frame of a machine, its largest sizes and their test. The definitions of machines and runs stand in specs/, their laws in proofs/.
+#![tactic(auto)]
+
 ghost use Rattle.std.specs.Prelude.{◌≡◌, ◌<◌, ◌≤◌, ◌^◌};
 ghost use Rattle.verdict.specs.Checks.{Decides};
 ghost use Rattle.machine.specs.Limits.{most_inputs, most_settings, Sized};
@@ -8,7 +10,7 @@ use sets::WORDS;
 
 // What a table job is told beside the table: the sizes, the set of the settings that are ruled out, and that of the allowed starts.
 #[repr(C)]
-#[derive(Drop)]
+#[derive(Clone, Copy)]
 pub struct Frame {
     pub inputs: usize,
     pub states: usize,

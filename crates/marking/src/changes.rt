@@ -12,7 +12,7 @@ use basics::{narrow, wide};
 use machine::usable;
 
 // What a head of the queue offers: a weight, by single changes or by multiple ones.
-#[derive(Drop)]
+#[derive(Clone, Copy)]
 pub(crate) struct Round {
     pub(crate) weight: u32,
     pub(crate) many: bool,

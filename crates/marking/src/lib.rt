@@ -1,5 +1,7 @@
 // Marking (document 01, "Runs and ranks"; document 02, ticket 6): the rank of each couple; and the weight of the run to it, by single changes
 // or by several inputs at once, with its parent, the couple before it on that run.
+#![tactic(auto)]
+
 ghost use Rattle.std.specs.Prelude.{◌≡◌, ◌≤◌, length, get_or};
 ghost use Rattle.verdict.specs.Buffers.{Filled};
 ghost use Rattle.machine.specs.Runs.{machine_of, machine_by, couples};

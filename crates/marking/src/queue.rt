@@ -12,7 +12,7 @@ use machine::Frame;
 use tables::is_start;
 
 // A machine's frame, how many settings it has, and whether several inputs may change at once.
-#[derive(Drop)]
+#[derive(Clone, Copy)]
 pub(crate) struct Sizes {
     pub(crate) frame: Frame,
     pub(crate) settings: usize,
@@ -20,7 +20,7 @@ pub(crate) struct Sizes {
 }
 
 // What a change offers to the couples that it visits: a weight, and the couple before it as parent.
-#[derive(Drop)]
+#[derive(Clone, Copy)]
 pub(crate) struct Offered {
     pub(crate) weight: u32,
     pub(crate) parent: u16,

@@ -17,7 +17,7 @@ use basics::long;
 use machine::Frame;
 
 // Where a head of the queue came to, and the queue's end.
-#[derive(Drop)]
+#[derive(Clone, Copy)]
 struct Ends {
     head: usize,
     tail: usize,
@@ -94,7 +94,7 @@ fn next_weight(weights: &[u32], queue: &[u16], single: usize, many: usize, tail:
 }
 
 // The heads of the queue and its end, the round's weight, the queue's end when the round began, and whether the second head is still to go on.
-#[derive(Drop)]
+#[derive(Clone, Copy)]
 struct Heads {
     single: usize,
     many: usize,
@@ -122,7 +122,7 @@ fn head_left(several: bool, heads: Heads, couples: usize) -> bool
 }
 
 // The part of the queue that a head goes over, and the weight that it offers there.
-#[derive(Drop)]
+#[derive(Clone, Copy)]
 struct Part {
     from: usize,
     to: usize,

@@ -1,5 +1,7 @@
 // The run to a couple, and the plan (document 01, "Runs and ranks"); where several inputs may change at once, the run to a couple and the
 // list of such runs apart from the plan (document 02, ticket 6): refusals 14, 15, 16 and 20, after those of marking.
+#![tactic(auto)]
+
 ghost use Rattle.std.specs.Prelude.{◌≡◌, true, ℕ, ◌%◌, ◌≤◌, ◌<◌, length, get_or};
 ghost use Rattle.machine.specs.Limits.{most_couples, unmarked};
 ghost use Rattle.machine.specs.Runs.{machine_of, machine_by};

@@ -1,4 +1,6 @@
 // Expected readings (document 01, "Runs and ranks"): what a board that moves as the specification says shows on a run.
+#![tactic(auto)]
+
 ghost use Rattle.std.specs.Prelude.{◌≡◌, Bool, true, ℕ, ◌+◌, ◌<◌, ◌≤◌, ◌^◌, length, get_or, set};
 ghost use Rattle.verdict.specs.Checks.{Judged, Passed};
 ghost use Rattle.verdict.specs.Buffers.{Front};

@@ -6,7 +6,7 @@ use crate::lines::{end, name, number, word};
 use condition::Meaning;
 
 // The number and the character of an answer.
-#[derive(Drop)]
+#[derive(Clone, Copy)]
 struct Numbers {
     number: u64,
     character: u64,

@@ -1,5 +1,7 @@
 // The example rows of document 01 that are not starred, the tables that were published, and files of each refusal, one line a row: a
 // short name of the row, then its numbers.
+#![tactic(auto)]
+
 mod apart;
 mod changes;
 mod compared;

@@ -1,4 +1,6 @@
 // Runs as bytes (document 01, "Runs and ranks"): one byte a setting, alone or stored one behind the other.
+#![tactic(auto)]
+
 mod faults;
 mod stored;
 

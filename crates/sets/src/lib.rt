@@ -1,4 +1,6 @@
 // Sets of settings, by value: words of 64 bits, one bit a setting.
+#![tactic(auto)]
+
 ghost use Rattle.std.specs.Prelude.{◌≡◌, ◌||◌, ℕ, ◌<◌, eqb};
 ghost use Rattle.sets.specs.Sets.{words, most_members, member, Words};
 

@@ -1,4 +1,6 @@
 // Prints the sheet of the specification file on standard input, or the line of its refusal.
+#![tactic(auto)]
+
 ghost use Rattle.std.specs.Prelude.{◌≡◌, true, ◌≤◌, length};
 ghost use Rattle.machine.specs.Runs.{machine_by};
 ghost use Rattle.show.specs.declared.Written.TheVariants.{All};
@@ -25,7 +27,7 @@ const LIST: usize = 65536;
 const TEXT: usize = 46 + 17 * COUPLES + 5 * PLAN + 4 * LIST;
 
 // So many bytes came from standard input, or a read failed.
-#[derive(Drop)]
+#[derive(Clone, Copy)]
 enum Input {
     Bytes(usize),
     Failed,

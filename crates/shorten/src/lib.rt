@@ -1,4 +1,6 @@
 // Shortening a plan (document 02, ticket 3): a run that visits only what other runs still in visit is taken out.
+#![tactic(auto)]
+
 ghost use Rattle.std.specs.Prelude.{◌≡◌, [], ℕ, ◌+◌, ◌≤◌, ◌<◌, ◌^◌, length, get_or, drop};
 ghost use Rattle.std.proofs.Math.Seq.{paste};
 ghost use Rattle.machine.specs.Runs.{machine_of, Run, visits_from};
@@ -15,7 +17,7 @@ use tables::check_table;
 use verdict::Answer;
 
 // The couples that a change visits, and the state then.
-#[derive(Drop)]
+#[derive(Clone, Copy)]
 struct Visited {
     entered: usize,
     moved: usize,
@@ -23,7 +25,7 @@ struct Visited {
 }
 
 // So many settings of a run, and the state then.
-#[derive(Drop)]
+#[derive(Clone, Copy)]
 struct Place {
     settings: usize,
     state: usize,

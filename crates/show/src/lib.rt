@@ -2,6 +2,8 @@
 //
 // A text is written piece by piece: each function takes what is written so far and answers what is written then. Where the buffer
 // ends, the front of the text stands in it and the rest is left out.
+#![tactic(auto)]
+
 ghost use Rattle.std.specs.Prelude.{◌≡◌, ◌∷◌, [], ◌++◌, map, ◌+◌, ◌<◌};
 ghost use Rattle.basics.specs.Texts.{letters};
 ghost use Rattle.machine.specs.Plans.{runs_in};
@@ -19,7 +21,7 @@ use runs::{run_end, setting};
 const COUNTED: usize = COUPLES / 8;
 
 // All bytes of a text stand at the front of the buffer, so many; or the buffer is short.
-#[derive(Drop)]
+#[derive(Clone, Copy)]
 pub enum Written {
     All(usize),
     Short,

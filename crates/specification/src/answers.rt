@@ -14,7 +14,7 @@ use verdict::Answer;
 
 // The answer, and what there is to hand on: so many evolutions, whose records begin at `from` and whose texts begin at `text`, or as
 // many zero records where the file is not good.
-#[derive(Drop)]
+#[derive(Clone, Copy)]
 pub(crate) struct Core {
     pub contents: Contents,
     pub from: usize,

@@ -20,7 +20,7 @@ pub(crate) const STARTS: usize = NEVER + 1;
 pub(crate) const MOST_KINDS: usize = STARTS;
 
 // The bodies of a file, an entry each: how many there are, where each begins, and how long it is.
-#[derive(Drop)]
+#[derive(Clone, Copy)]
 pub(crate) struct Bodies {
     pub count: usize,
     pub at: [usize; MOST_KINDS],

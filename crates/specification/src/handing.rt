@@ -7,7 +7,7 @@ use basics::{narrow, wide};
 use evolutions::Evolution;
 
 // A record, and where the text of the next one starts.
-#[derive(Drop)]
+#[derive(Clone, Copy)]
 struct Next {
     e: Evolution,
     at: usize,

@@ -1,4 +1,6 @@
 // Reading a specification file (document 01): its checks, its table of moves, its output words, and its evolutions as records.
+#![tactic(auto)]
+
 ghost use Rattle.specification.specs.Limits.{most_evolutions};
 ghost use Rattle.specification.specs.Reading.{ReadHere, ReadAs};
 
@@ -28,7 +30,7 @@ const TEXT: usize = 255;
 // The answer, with 5 the character at which the condition does not read, else 0; and the sizes and frame of the file, all zero on
 // refusal. The frame goes to the table jobs as it is.
 #[repr(C)]
-#[derive(Drop)]
+#[derive(Clone, Copy)]
 pub struct Contents {
     pub answer: Answer,
     pub character: usize,

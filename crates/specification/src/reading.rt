@@ -25,7 +25,7 @@ use verdict::{Answer, Found, Room, check_rooms};
 const BLANK_WORD: u16 = 65535;
 
 // The answer of refusals 1, 2 and 3, and the sizes of a file that passes 1 and 2.
-#[derive(Drop)]
+#[derive(Clone, Copy)]
 struct Shape {
     answer: Answer,
     z: Sizes,

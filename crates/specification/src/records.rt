@@ -15,7 +15,7 @@ use machine::{INPUTS, STATES, settings};
 use verdict::Found;
 
 // The sizes of a file, where its records begin, how many bodies there are beyond kind 4, and the first record that has a condition.
-#[derive(Drop)]
+#[derive(Clone, Copy)]
 pub(crate) struct Sizes {
     pub inputs: usize,
     pub outputs: usize,
@@ -28,7 +28,7 @@ pub(crate) struct Sizes {
 }
 
 // The checks of single records: refusals 4, 6 and 7.
-#[derive(Drop)]
+#[derive(Clone, Copy)]
 pub(crate) enum RecordCheck {
     Beyond,
     Own,

@@ -1,4 +1,6 @@
 // The checks of a lent table (document 01, "Refusals by number"): one gate for every job that is handed one.
+#![tactic(auto)]
+
 ghost use Rattle.std.specs.Prelude.{◌≡◌, ℕ, ◌≤◌, ◌^◌, length};
 ghost use Rattle.verdict.specs.Checks.{Decides, Passed, Judged};
 ghost use Rattle.machine.specs.Runs.{machine_of, Starts};

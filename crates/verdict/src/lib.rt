@@ -1,23 +1,25 @@
 // What every job answers, what a search for a place answers, and the check of lent buffers.
+#![tactic(auto)]
+
 ghost use Rattle.verdict.specs.Checks.{Passed, Judged, room_checks};
 
 // A refusal's number and place; number 0 is success.
 #[repr(C)]
-#[derive(Drop)]
+#[derive(Clone, Copy)]
 pub struct Answer {
     pub number: usize,
     pub place: usize,
 }
 
 // The smallest place that a search found, or nothing.
-#[derive(Drop)]
+#[derive(Clone, Copy)]
 pub enum Found {
     At(usize),
     Nothing,
 }
 
 // The elements that a buffer needs, and those that it has.
-#[derive(Drop)]
+#[derive(Clone, Copy)]
 pub struct Room {
     pub needed: usize,
     pub has: usize,
