@@ -3,7 +3,7 @@
 
 usage: python3 tools/respell.py        at the top, once, right after port.py
 
-A name is own if a file of specs/ or proofs/ declares it: a definition, a lemma, a member of a record, a constructor. Names of functions in
+A name is own if a file of specs/ or proofs/ declares it: a definition, a lemma, in a section too, a member of a record, a constructor. Names of functions in
 src/, exported names, strings and comments keep their spelling. It stops, and writes nothing, where two names would fall together.
 """
 import collections
@@ -13,9 +13,7 @@ import sys
 
 TOKEN = re.compile(r"[^\s(){}\[\];,.\"]+")
 HEAD = re.compile(r"((?:abbrev |unfoldable |pub )*)(record |data )?([^\s:(){}]+)(?=[ :({])")
-MEMBER = re.compile(r"\s+(?:pub )?([^\s:(){}]+) :")
-# lemmas beside a function that had its name in snake case before
-LEMMAS = {"rank-of": "rank_of_lem"}
+INNER = re.compile(r"\s+(?:abbrev |unfoldable |pub )*([^\s:(){}]+) :(?= |$)")
 SKIP = ("--", "use ", "pub use", "mod ", "pub mod", "unfolding", "ruleset", " ")
 
 
@@ -30,15 +28,13 @@ def respelled(name):
 def declared(files):
     own = collections.defaultdict(set)
     for path in files:
-        inside = False
         for line in path.read_text().split("\n"):
-            member = MEMBER.match(line)
-            if inside and member:
-                own[member[1]].add(path)
+            inner = INNER.match(line)
+            if inner:
+                own[inner[1]].add(path)
             if not line or line.startswith(SKIP):
                 continue
             head = HEAD.match(line)
-            inside = bool(head and head[2])
             if head and (head[2] or " : " in line or line.endswith(" :")):
                 own[head[3]].add(path)
     return own
@@ -61,13 +57,20 @@ def code_and_rest(line):
 
 
 def turned(text, new, comment):
+    """The text with the new names. A snake case lemma has the name of a function's step too, behind a dot, and of a function of src/."""
+
+    def turn(m):
+        if m.string[: m.start()].endswith(".") or (comment and respelled(m[0]) == m[0]):
+            return respelled(m[0]) if m[0] in new else m[0]
+        return new.get(m[0], m[0])
+
     out = []
     for line in text.split("\n"):
         code, rest = (line, "") if comment is None else code_and_rest(line)
         if comment is None and line.lstrip().startswith("--"):
             code, rest = "", line
         parts = code.split('"')
-        parts[::2] = [TOKEN.sub(lambda m: new.get(m[0], m[0]), p) for p in parts[::2]]
+        parts[::2] = [TOKEN.sub(turn, p) for p in parts[::2]]
         out.append('"'.join(parts) + rest)
     return "\n".join(out)
 
@@ -82,9 +85,11 @@ def main():
     foreign = brought_in(antt + sources, crates)
     new = {n: respelled(n) for n in own if respelled(n) != n}
     # a lemma that would have its function's name
-    words = {respelled(n) for n in own if re.search("[a-z][A-Z]", n)}
-    new |= {n: respelled(n) + "_lem" for n in own if not re.search("[a-z][A-Z]", n) and respelled(n) in words}
-    new |= {n: m for n, m in LEMMAS.items() if n in own}
+    camel = {n for n in new if re.search("[a-z][A-Z]", n)}
+    words = {respelled(n) for n in camel} | (set(own) - set(new))
+    dashed = set(new) - camel
+    lemmas = {n for n in dashed if respelled(n) in words} | {respelled(n) for n in camel} & set(own)
+    new |= {n: respelled(n) + "_lem" for n in lemmas}
     both = sorted(set(new) & foreign)
     if both:
         print("own and of the library, left as they are:", *both)

@@ -12,22 +12,22 @@ use Rattle.bench.specs.declared.Noted.TheVariants.{Equal, Stored, Full, Refused}
 use Rattle.bench.specs.Log.{most_entries, refuses, noted, outcome, update_of}
 
 module _ (l : Log) (r : Reading) where
-  pub when-refused : refuses l ≡ true → outcome Refused l ≡ update_of l r
+  pub when_refused : refuses l ≡ true → outcome Refused l ≡ update_of l r
   unfolding update_of
-  when-refused t = simp t
+  when_refused t = simp t
 
 module _ (l : Log) (r : Reading) {counts : List ℕ} (e : counts ≡ (noted l r).outputs) where
-  pub when-equal : refuses l ≡ false → r.expected ≡ r.seen
+  pub when_equal : refuses l ≡ false → r.expected ≡ r.seen
       → outcome Equal (record { readings = l.readings + 1; differing = l.differing; kept = l.kept; entries = l.entries; outputs = counts }) ≡ update_of l r
   unfolding update_of
-  when-equal t s = rw e (simp (t, eq-eqb r.expected r.seen s, add-zero))
+  when_equal t s = rw e (simp (t, eq-eqb r.expected r.seen s, add-zero))
 
-  pub when-full : refuses l ≡ false → (r.expected ≡ r.seen → ⊥) → most_entries ≤ l.kept
+  pub when_full : refuses l ≡ false → (r.expected ≡ r.seen → ⊥) → most_entries ≤ l.kept
       → outcome Full (record { readings = l.readings + 1; differing = l.differing + 1; kept = l.kept; entries = l.entries; outputs = counts }) ≡ update_of l r
   unfolding update_of
-  when-full t d h = rw e (simp (t, ne_eqb r.expected r.seen d, le-ltb l.kept most_entries h, add-zero))
+  when_full t d h = rw e (simp (t, ne_eqb r.expected r.seen d, le-ltb l.kept most_entries h, add-zero))
 
-  pub when-stored : refuses l ≡ false → (r.expected ≡ r.seen → ⊥) → l.kept < most_entries
+  pub when_stored : refuses l ≡ false → (r.expected ≡ r.seen → ⊥) → l.kept < most_entries
       → outcome Stored (record { readings = l.readings + 1; differing = l.differing + 1; kept = l.kept + 1; entries = set l.entries l.kept r; outputs = counts }) ≡ update_of l r
   unfolding update_of
-  when-stored t d h = rw e (simp (t, ne_eqb r.expected r.seen d, lt-ltb l.kept most_entries h))
+  when_stored t d h = rw e (simp (t, ne_eqb r.expected r.seen d, lt-ltb l.kept most_entries h))

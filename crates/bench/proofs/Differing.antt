@@ -31,12 +31,12 @@ fewer_cons x ds n true h = omega arith
 fewer_cons x ds n false h = omega arith
 
 module _ (p : Reading → Bool) where
-  pub those-snoc : (rs : List Reading) (r : Reading) → those p (rs ++ r ∷ []) ≡ those p rs ++ cond (p r) (r ∷ []) []
-  those-snoc [] r = refl
-  those-snoc (x ∷ rs) r = rw (those-snoc rs r) (those_cons x (those p rs) (cond (p r) (r ∷ []) []) (p x))
+  pub those_snoc : (rs : List Reading) (r : Reading) → those p (rs ++ r ∷ []) ≡ those p rs ++ cond (p r) (r ∷ []) []
+  those_snoc [] r = refl
+  those_snoc (x ∷ rs) r = rw (those_snoc rs r) (those_cons x (those p rs) (cond (p r) (r ∷ []) []) (p x))
 
-  pub count-snoc : (rs : List Reading) (r : Reading) → length (those p (rs ++ r ∷ [])) ≡ length (those p rs) + one_if (p r)
-  count-snoc rs r = rw (those-snoc rs r, length-append, one_or_none r (p r))
+  pub count_snoc : (rs : List Reading) (r : Reading) → length (those p (rs ++ r ∷ [])) ≡ length (those p rs) + one_if (p r)
+  count_snoc rs r = rw (those_snoc rs r, length-append, one_or_none r (p r))
 
   -- no more are counted than there are
   pub fewer : (rs : List Reading) → length (those p rs) ≤ length rs
@@ -55,24 +55,24 @@ pub counts_few : (rs : List Reading) (j : ℕ) → j < most_outputs → get_or (
 counts_few rs j h = rw (list_at (times rs) most_outputs j h) (fewer (differs_in j) rs)
 
 pub counts_snoc : (rs : List Reading) (r : Reading) → list_to (λ j. get_or (counts_of rs) j 0 + one_if (differs_in j r)) most_outputs ≡ counts_of (rs ++ r ∷ [])
-counts_snoc rs r = list_same _ _ most_outputs (λ j h. ap (λ t. t + one_if (differs_in j r)) (list_at (times rs) most_outputs j h) ∙ sym (count-snoc (differs_in j) rs r))
+counts_snoc rs r = list_same _ _ most_outputs (λ j h. ap (λ t. t + one_if (differs_in j r)) (list_at (times rs) most_outputs j h) ∙ sym (count_snoc (differs_in j) rs r))
 
 -- ---- the words of one reading
 module _ (r : Reading) where
   -- an output differs only where the words do
-  counted-in : (j : ℕ) (d : Bool) → differs r ≡ d → one_if (differs_in j r) ≤ one_if d
-  counted-in j true e = at_most (differs_in j r)
+  counted_in : (j : ℕ) (d : Bool) → differs r ≡ d → one_if (differs_in j r) ≤ one_if d
+  counted_in j true e = at_most (differs_in j r)
     where
       at_most : (t : Bool) → one_if t ≤ 1
       at_most true = omega arith
       at_most false = omega arith
-  counted-in j false e =
+  counted_in j false e =
       let same : r.expected ≡ r.seen = eqb-true _ _ (not-false _ e) in
       let equal : differs_in j r ≡ false = ap not (eq-eqb _ _ (ap (λ w. output_of w j) same)) in
       simp equal (omega arith)
 
   pub no_more : (j : ℕ) → one_if (differs_in j r) ≤ one_if (differs r)
-  no_more j = counted-in j (differs r) refl
+  no_more j = counted_in j (differs r) refl
 
   abbrev ones : ℕ → ℕ
   ones j = one_if (differs_in j r)

@@ -17,7 +17,7 @@ use Rattle.bench.specs.declared.Log.{Log}
 use Rattle.bench.specs.Readings.{differs, those}
 use Rattle.bench.specs.Log.{most_entries, most_readings, stores, sound, refuses, equal, stored, full, refused, noted, update_of}
 use Rattle.bench.specs.History.{fresh_log, after, accepted, Fits, AllFit, first_of, History}
-use Rattle.bench.proofs.Differing.{those-snoc, counts_of, counts_none, counts_snoc}
+use Rattle.bench.proofs.Differing.{those_snoc, counts_of, counts_none, counts_snoc}
 use Rattle.bench.proofs.Soundness.{refused_log, noted_log, sound_kept}
 
 -- ---- the log that n accepted readings make, of which ds differ, with these counts
@@ -56,7 +56,7 @@ grows n ds counts r true true es ek =
 
 grown : (rs : List Reading) (r : Reading) → noted (log_of rs) r ≡ log_of (rs ++ r ∷ [])
 grown rs r =
-    rw (length-append rs (r ∷ []), those-snoc differs rs r, ← counts_snoc rs r)
+    rw (length-append rs (r ∷ []), those_snoc differs rs r, ← counts_snoc rs r)
     (grows (length rs) (those differs rs) (counts_of rs) r (differs r) (ltb (length (first_of rs)) most_entries) refl refl)
 
 -- ---- soundness, and the 32 entries of a log, are kept

@@ -16,56 +16,56 @@ use Rattle.condition.specs.Condition.{Reads, CanBeContinued, CharacterOf, cannot
 
 module _ {n : ℕ} where
   -- the front of what can be continued, what reads, and no characters at all can be continued
-  front-on : {w : List ℕ} (i : ℕ) → CanBeContinued n w → CanBeContinued n (take i w)
-  front-on {w} i x = record {
+  front_on : {w : List ℕ} (i : ℕ) → CanBeContinued n w → CanBeContinued n (take i w)
+  front_on {w} i x = record {
     behind = drop i w ++ x.behind;
     reads = subst (Reads n) (ap (◌++ x.behind) (sym (take-append-drop i w)) ∙ append_assoc (take i w) (drop i w) x.behind) x.reads;
   }
 
-  pub read-on : {w : List ℕ} → Reads n w → CanBeContinued n w
-  read-on {w} x = record { behind = []; reads = subst (Reads n) (sym (append-nil w)) x }
+  pub read_on : {w : List ℕ} → Reads n w → CanBeContinued n w
+  read_on {w} x = record { behind = []; reads = subst (Reads n) (sym (append-nil w)) x }
 
-  nothing-on : CanBeContinued n []
+  nothing_on : CanBeContinued n []
   unfolding text opened Below
-  nothing-on = record { behind = code "0" ∷ []; reads = record { tree = one (one off); spelt = refl; nested = omega arith; known = tt } }
+  nothing_on = record { behind = code "0" ∷ []; reads = record { tree = one (one off); spelt = refl; nested = omega arith; known = tt } }
 
 module _ {n : ℕ} {w : List ℕ} where
-  pub character-unread : {k : ℕ} → CharacterOf n w k → Reads n w → ⊥
-  character-unread (cannot {k} x) r = x.here (front-on k (read-on r))
-  character-unread (early x none) r = none r
+  pub character_unread : {k : ℕ} → CharacterOf n w k → Reads n w → ⊥
+  character_unread (cannot {k} x) r = x.here (front_on k (read_on r))
+  character_unread (early x none) r = none r
 
-  pub character-only : {j k : ℕ} → CharacterOf n w j → CharacterOf n w k → j ≡ k
-  character-only (cannot x) (cannot y) = least_unique x y
-  character-only (cannot {k} x) (early y none) = absurd (x.here (front-on k y))
-  character-only (early x none) (cannot {k} y) = absurd (y.here (front-on k x))
-  character-only (early x none) (early y none') = refl
+  pub character_only : {j k : ℕ} → CharacterOf n w j → CharacterOf n w k → j ≡ k
+  character_only (cannot x) (cannot y) = least_unique x y
+  character_only (cannot {k} x) (early y none) = absurd (x.here (front_on k y))
+  character_only (early x none) (cannot {k} y) = absurd (y.here (front_on k x))
+  character_only (early x none) (early y none') = refl
 
-  pub character-some : {k : ℕ} → CharacterOf n w k → 1 ≤ k
-  character-some (cannot {k} x) =
-      let some : ¬ (k ≡ 0) = λ e. x.here (subst (λ (i : ℕ). CanBeContinued n (take i w)) (sym e) nothing-on) in
+  pub character_some : {k : ℕ} → CharacterOf n w k → 1 ≤ k
+  character_some (cannot {k} x) =
+      let some : ¬ (k ≡ 0) = λ e. x.here (subst (λ (i : ℕ). CanBeContinued n (take i w)) (sym e) nothing_on) in
       omega arith
-  character-some (early x none) = omega arith
+  character_some (early x none) = omega arith
 
-  pub character-upto : {k : ℕ} → CharacterOf n w k → k ≤ length w + 1
-  character-upto (cannot {k} x) =
+  pub character_upto : {k : ℕ} → CharacterOf n w k → k ≤ length w + 1
+  character_upto (cannot {k} x) =
       let few : ¬ (length w < k) = λ h.
       x.first (length w) h (λ y. x.here (subst (CanBeContinued n) (take_all (length w) w (le_refl _) ∙ sym (take_all k w (omega arith))) y)) in
       omega arith
-  character-upto (early x none) = le_refl _
+  character_upto (early x none) = le_refl _
 
   -- m characters can be continued, and no text with one more of them, or with their end, reads
   pub stops : {m : ℕ} → m ≤ length w → CanBeContinued n (take m w) → ((w' : List ℕ) → take (suc m) w' ≡ take (suc m) w → Reads n w' → ⊥) → CharacterOf n w (m + 1)
   stops {m} h alive dead = by (dec_lt m (length w))
     where
-      dead-on : m < length w → CanBeContinued n (take (suc m) w) → ⊥
-      dead-on l x =
+      dead_on : m < length w → CanBeContinued n (take (suc m) w) → ⊥
+      dead_on l x =
           let long : suc m ≤ length (take (suc m) w) = omega (arith, length-take-le (suc m) w l) in
           dead (take (suc m) w ++ x.behind) (take-append-le (suc m) (take (suc m) w) x.behind long ∙ take-take (suc m) (suc m) w (le_refl _)) x.reads
 
       by : Dec (m < length w) → CharacterOf n w (m + 1)
       by (yes l) = rw add-one (cannot {k = suc m} (record {
-        here = dead-on l;
-        first = λ i k none. none (subst (CanBeContinued n) (take-take i m w (omega arith)) (front-on i alive));
+        here = dead_on l;
+        first = λ i k none. none (subst (CanBeContinued n) (take-take i m w (omega arith)) (front_on i alive));
       }))
       by (no l) =
           let e : length w ≡ m = omega arith in

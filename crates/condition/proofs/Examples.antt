@@ -10,19 +10,19 @@ use Rattle.basics.specs.Texts.{letters}
 use Rattle.condition.specs.Grammar.{one, more, bang, on, input, text, opened, Below, holds}
 use Rattle.condition.specs.Condition.{Holds, Says}
 use Rattle.condition.specs.declared.Meaning.TheVariants.{Is}
-use Rattle.condition.proofs.Says.{value-says}
+use Rattle.condition.proofs.Says.{value_says}
 
 -- `a+b.c` at setting 1 (only a on) holds
 pub and_before_or : Says 3 1 (letters "a+b.c") (Is true)
 unfolding text opened Below holds
 and_before_or =
-    value-says (record { tree = more (one (input 0)) (one (more (input 1) (one (input 2)))); spelt = refl; nested = omega arith; known = omega arith }) refl
+    value_says (record { tree = more (one (input 0)) (one (more (input 1) (one (input 2)))); spelt = refl; nested = omega arith; known = omega arith }) refl
 
 -- `!a.b` at setting 0 does not hold
 pub not_before_and : Says 2 0 (letters "!a.b") (Is false)
 unfolding text opened Below holds
 not_before_and =
-    value-says (record { tree = one (more (bang (input 0)) (one (input 1))); spelt = refl; nested = omega arith; known = omega arith }) refl
+    value_says (record { tree = one (more (bang (input 0)) (one (input 1))); spelt = refl; nested = omega arith; known = omega arith }) refl
 
 -- `1` holds at every setting
 pub one_holds : (n v : ℕ) → Holds n v (code "1" ∷ [])

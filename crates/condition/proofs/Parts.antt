@@ -15,21 +15,21 @@ use Rattle.condition.specs.declared.Part.{Part}
 use Rattle.condition.specs.declared.Part.TheVariants.{Value, Bad}
 use Rattle.condition.proofs.Trees.{same, close_ends}
 use Rattle.condition.proofs.Lists.{front, at_front, not_front, agree_front, none_same, first_same, ends_same, not_first_same}
-use Rattle.condition.proofs.Readings.{nothing, enclosed, inside, no-single, of_same, before, alone, first, Passed, passed-more}
+use Rattle.condition.proofs.Readings.{nothing, enclosed, inside, no_single, of_same, before, alone, first, Passed, passed_more}
 
 -- what was found, where the answer is known
 module _ {l : Level} {n v d : ℕ} {s : List ℕ} {at : ℕ} where
-  found-value : {b : Bool} {end : ℕ} → Found l n v d s at (Value b end) → FoundTo l n v d s at b end
-  found-value (reads x) = x
+  found_value : {b : Bool} {end : ℕ} → Found l n v d s at (Value b end) → FoundTo l n v d s at b end
+  found_value (reads x) = x
 
-  found-bad : {place : ℕ} → Found l n v d s at (Bad place) → FailedAt l n d s at place
-  found-bad (stops x) = x
+  found_bad : {place : ℕ} → Found l n v d s at (Bad place) → FailedAt l n d s at place
+  found_bad (stops x) = x
 
-  pub is-value : {p : Part} {b : Bool} {end : ℕ} → p ≡ Value b end → Found l n v d s at p → FoundTo l n v d s at b end
-  is-value e f = found-value (subst (Found l n v d s at) e f)
+  pub is_value : {p : Part} {b : Bool} {end : ℕ} → p ≡ Value b end → Found l n v d s at p → FoundTo l n v d s at b end
+  is_value e f = found_value (subst (Found l n v d s at) e f)
 
-  pub is-bad : {p : Part} {place : ℕ} → p ≡ Bad place → Found l n v d s at p → FailedAt l n d s at place
-  is-bad e f = found-bad (subst (Found l n v d s at) e f)
+  pub is_bad : {p : Part} {place : ℕ} → p ≡ Bad place → Found l n v d s at p → FailedAt l n d s at place
+  is_bad e f = found_bad (subst (Found l n v d s at) e f)
 
 -- where a part that was found ends
 pub span : {l : Level} {n v d : ℕ} {s : List ℕ} {at : ℕ} {b : Bool} {end : ℕ} (x : FoundTo l n v d s at b end) → end ≡ at + length (text x.reading.tree)
@@ -76,9 +76,9 @@ end_fails s at h = fails_here s at (λ w r e x. nothing (none_same w e (drop_of_
 
 -- one character
 module _ {n : ℕ} (s : List ℕ) (at : ℕ) (h : at < length s) where
-  pub single-found : {v d : ℕ} {b : Bool} (t : Tree factor) → text t ≡ get_or s at 0 ∷ [] → opened t ≡ 0 → Below n t → holds v t ≡ b
+  pub single_found : {v d : ℕ} {b : Bool} (t : Tree factor) → text t ≡ get_or s at 0 ∷ [] → opened t ≡ 0 → Below n t → holds v t ≡ b
       → FoundTo factor n v d s at b (at + 1)
-  single-found t spelt nested known says = record {
+  single_found t spelt nested known says = record {
     later = omega arith;
     within = omega arith;
     ends = tt;
@@ -91,11 +91,11 @@ module _ {n : ℕ} (s : List ℕ) (at : ℕ) (h : at < length s) where
     value = says;
   }
 
-  pub single-fails : {d : ℕ} → (At s at (code "!") → ⊥) × (At s at (code "(") → ⊥) → (get_or s at 0 ≡ code "0" → ⊥) → (get_or s at 0 ≡ code "1" → ⊥)
+  pub single_fails : {d : ℕ} → (At s at (code "!") → ⊥) × (At s at (code "(") → ⊥) → (get_or s at 0 ≡ code "0" → ⊥) → (get_or s at 0 ≡ code "1" → ⊥)
       → ((k : ℕ) → (k < n) × (k < most_inputs) → get_or s at 0 ≡ code "a" + k → ⊥) → FailedAt factor n d s at at
-  single-fails bare off-not on-not letter-not =
+  single_fails bare off-not on-not letter-not =
       fails_here s at (λ w r e x.
-      no-single (λ e. bare.0 (record { within = h; is = e })) (λ e. bare.1 (record { within = h; is = e })) off-not on-not letter-not
+      no_single (λ e. bare.0 (record { within = h; is = e })) (λ e. bare.1 (record { within = h; is = e })) off-not on-not letter-not
       x.tree r (sym (first_same w e (front s at h)).1 ∙ x.spelt) x.known)
 
 -- a factor behind `!`
@@ -106,9 +106,9 @@ not_same false true = refl
 not_same false false = refl
 
 module _ {n d : ℕ} {s : List ℕ} {at from : ℕ} {negates : Bool} (k : Skipped s at negates from) where
-  pub negated-found : {v : ℕ} {b : Bool} {end : ℕ} → FoundTo factor n v d s from b end → FoundTo factor n v d s at (not (beq negates b)) end
+  pub negated_found : {v : ℕ} {b : Bool} {end : ℕ} → FoundTo factor n v d s from b end → FoundTo factor n v d s at (not (beq negates b)) end
   unfolding of_same
-  negated-found {v} {b} {end} x =
+  negated_found {v} {b} {end} x =
       let y = k.wrap n v d (drop from s) (drop end s) x.reading in
       record {
         later = omega (arith, x.later, k.count);
@@ -118,8 +118,8 @@ module _ {n d : ℕ} {s : List ℕ} {at from : ℕ} {negates : Bool} (k : Skippe
         value = y.1 ∙ ap (flipped negates) x.value ∙ not_same negates b;
       }
 
-  pub negated-fails : {place : ℕ} → FailedAt factor n d s from place → FailedAt factor n d s at place
-  negated-fails f = record {
+  pub negated_fails : {place : ℕ} → FailedAt factor n d s from place → FailedAt factor n d s at place
+  negated_fails f = record {
     passed = length k.bangs + f.passed;
     count = omega (arith, k.count, f.count);
     failed = fails_same k.spelt (fails_behind k.bangs (λ u r x. (k.wrap n 0 d u r x).0) (λ u r h x. k.strip n d u r x) f.failed);
@@ -127,13 +127,13 @@ module _ {n d : ℕ} {s : List ℕ} {at from : ℕ} {negates : Bool} (k : Skippe
 
 -- a condition in parentheses: closed, failing inside them, not closed, and a parenthesis too many
 module _ {n d : ℕ} {s : List ℕ} {at : ℕ} (here : At s at (code "(")) where
-  pub one-too-many : d ≡ 0 → FailedAt factor n d s at at
-  one-too-many h = fails_here s at (λ w r e x. let y = (inside {d' = 0} (omega arith) (first_same w e (at_front here)).1 x).0 in omega arith)
+  pub one_too_many : d ≡ 0 → FailedAt factor n d s at at
+  one_too_many h = fails_here s at (λ w r e x. let y = (inside {d' = 0} (omega arith) (first_same w e (at_front here)).1 x).0 in omega arith)
 
   module _ {d' : ℕ} (h : d ≡ suc d') where
-    pub closed-found : {v : ℕ} {b : Bool} {end : ℕ} → FoundTo condition n v d' s (at + 1) b end → At s end (code ")") → FoundTo factor n v d s at b (end + 1)
+    pub closed_found : {v : ℕ} {b : Bool} {end : ℕ} → FoundTo condition n v d' s (at + 1) b end → At s end (code ")") → FoundTo factor n v d s at b (end + 1)
     unfolding enclosed of_same holds
-    closed-found x close = record {
+    closed_found x close = record {
       later = omega (arith, x.later);
       within = omega (arith, close.within);
       ends = tt;
@@ -141,8 +141,8 @@ module _ {n d : ℕ} {s : List ℕ} {at : ℕ} (here : At s at (code "(")) where
       value = x.value;
     }
 
-    pub inside-fails : {place : ℕ} → FailedAt condition n d' s (at + 1) place → FailedAt factor n d s at place
-    inside-fails f =
+    pub inside_fails : {place : ℕ} → FailedAt condition n d' s (at + 1) place → FailedAt factor n d s at place
+    inside_fails f =
         let w = drop (at + 1) s in
         let m = f.passed in
         let q = f.failed.alive.0 in
@@ -161,9 +161,9 @@ module _ {n d : ℕ} {s : List ℕ} {at : ℕ} (here : At s at (code "(")) where
           });
         }
 
-    pub unclosed-fails : {v : ℕ} {b : Bool} {end : ℕ} → FoundTo condition n v d' s (at + 1) b end → (At s end (code ")") → ⊥) → FailedAt factor n d s at end
+    pub unclosed_fails : {v : ℕ} {b : Bool} {end : ℕ} → FoundTo condition n v d' s (at + 1) b end → (At s end (code ")") → ⊥) → FailedAt factor n d s at end
     unfolding before
-    unclosed-fails {end = end} f not-close =
+    unclosed_fails {end = end} f not-close =
         let x = f.reading in
         let r = drop end s in
         let t = text x.tree in
@@ -188,9 +188,9 @@ ends_both or r e h = (e, h)
 ends_both and r e h = h
 
 module _ (j : Join) {n v d : ℕ} {s : List ℕ} {at from : ℕ} {acc : Bool} (p : Passed j n v d s at from acc) where
-  pub join-found : {b : Bool} {end : ℕ} → FoundTo (part j) n v d s from b end → (At s end (byte j) → ⊥) → FoundTo (joined j) n v d s at (joins j acc b) end
+  pub join_found : {b : Bool} {end : ℕ} → FoundTo (part j) n v d s from b end → (At s end (byte j) → ⊥) → FoundTo (joined j) n v d s at (joins j acc b) end
   unfolding holds alone of_same
-  join-found {b} {end} x ne =
+  join_found {b} {end} x ne =
       let y = p.extend (drop from s) (drop end s) (alone x.reading) in
       record {
         later = omega (arith, x.later, p.count);
@@ -202,10 +202,10 @@ module _ (j : Join) {n v d : ℕ} {s : List ℕ} {at from : ℕ} {acc : Bool} (p
 
   pub join_more : {b : Bool} {end : ℕ} → FoundTo (part j) n v d s from b end → At s end (byte j) → Passed j n v d s at (end + 1) (joins j acc b)
   unfolding of_same
-  join_more x h = passed-more j p (of_same refl (at_front h) x.reading) x.value (span x)
+  join_more x h = passed_more j p (of_same refl (at_front h) x.reading) x.value (span x)
 
-  pub join-fails : {place : ℕ} → FailedAt (part j) n d s from place → FailedAt (joined j) n d s at place
-  join-fails f = record {
+  pub join_fails : {place : ℕ} → FailedAt (part j) n d s from place → FailedAt (joined j) n d s at place
+  join_fails f = record {
     passed = length p.front + f.passed;
     count = omega (arith, p.count, f.count);
     failed = fails_same p.spelt (fails_behind p.front (λ u r x. (p.extend u r x).0) p.split (part_fails j f.failed));

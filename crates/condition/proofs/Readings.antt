@@ -45,12 +45,12 @@ flipped_not true false = refl
 flipped_not false b = refl
 
 module _ {s : List ℕ} {at : ℕ} where
-  pub bang-none : Skipped s at false at
-  bang-none = record { bangs = []; count = omega arith; spelt = refl; wrap = λ n v d u r x. (x, refl); strip = λ n d u r x. x }
+  pub bang_none : Skipped s at false at
+  bang_none = record { bangs = []; count = omega arith; spelt = refl; wrap = λ n v d u r x. (x, refl); strip = λ n d u r x. x }
 
-  pub bang-more : {end : ℕ} {negates : Bool} → Skipped s at negates end → At s end (code "!") → Skipped s at (not negates) (end + 1)
+  pub bang_more : {end : ℕ} {negates : Bool} → Skipped s at negates end → At s end (code "!") → Skipped s at (not negates) (end + 1)
   unfolding holds banged of_same
-  bang-more {end} {negates} k here =
+  bang_more {end} {negates} k here =
       let b = k.bangs in
       let snoc : (u : List ℕ) → (b ++ code "!" ∷ []) ++ u ≡ b ++ code "!" ∷ u = λ u. append_assoc b (code "!" ∷ []) u in
       record {
@@ -90,13 +90,13 @@ inside {r = r} h e x = unclose x.tree r h (sym e ∙ x.spelt) x.nested x.known
 -- a factor that begins with neither `!` nor `(` is one character: `0`, `1`, or an input letter below n and one of a to h
 module _ {n c : ℕ} {w : List ℕ} (bang-not : c ≡ code "!" → ⊥) (open-not : c ≡ code "(" → ⊥) (off-not : c ≡ code "0" → ⊥)
     (on-not : c ≡ code "1" → ⊥) (letter-not : (k : ℕ) → (k < n) × (k < most_inputs) → c ≡ code "a" + k → ⊥) where
-  pub no-single : (t : Tree factor) (r : List ℕ) → c ∷ w ≡ text t ++ r → Below n t → ⊥
+  pub no_single : (t : Tree factor) (r : List ℕ) → c ∷ w ≡ text t ++ r → Below n t → ⊥
   unfolding text Below
-  no-single (bang t) r e b = bang-not (head-eq_of_cons-eq e)
-  no-single (paren t) r e b = open-not (head-eq_of_cons-eq e)
-  no-single off r e b = off-not (head-eq_of_cons-eq e)
-  no-single on r e b = on-not (head-eq_of_cons-eq e)
-  no-single (input k) r e b = letter-not k b (head-eq_of_cons-eq e)
+  no_single (bang t) r e b = bang-not (head-eq_of_cons-eq e)
+  no_single (paren t) r e b = open-not (head-eq_of_cons-eq e)
+  no_single off r e b = off-not (head-eq_of_cons-eq e)
+  no_single on r e b = on-not (head-eq_of_cons-eq e)
+  no_single (input k) r e b = letter-not k b (head-eq_of_cons-eq e)
 
 -- joins: one part alone, and a part with what follows its join
 unfoldable pub alone : {j : Join} {n d : ℕ} {w r : List ℕ} → Reading (part j) n d w r → Reading (joined j) n d w r
@@ -160,10 +160,10 @@ module _ (j : Join) {n v d : ℕ} {s : List ℕ} {at : ℕ} where
   pub passed_none : Passed j n v d s at at (unit j)
   passed_none = record { front = []; count = omega arith; spelt = refl; extend = λ u r x. (x, joins_unit j (holds v x.tree)); split = λ u r h x. x }
 
-  pub passed-more : {from end : ℕ} {acc b : Bool} → Passed j n v d s at from acc → (x : Reading (part j) n d (drop from s) (byte j ∷ drop (end + 1) s))
+  pub passed_more : {from end : ℕ} {acc b : Bool} → Passed j n v d s at from acc → (x : Reading (part j) n d (drop from s) (byte j ∷ drop (end + 1) s))
       → holds v x.tree ≡ b → end ≡ from + length (text x.tree) → Passed j n v d s at (end + 1) (joins j acc b)
   unfolding holds followed of_same before
-  passed-more {end = end} {acc} {b} p x e h =
+  passed_more {end = end} {acc} {b} p x e h =
       let f = p.front in
       let t = text x.tree in
       let snoc : (u : List ℕ) → (f ++ (t ++ byte j ∷ [])) ++ u ≡ f ++ (t ++ byte j ∷ u) =

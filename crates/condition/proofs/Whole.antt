@@ -15,8 +15,8 @@ use Rattle.condition.specs.declared.Meaning.TheVariants.{Is, Unread}
 use Rattle.condition.proofs.Trees.{same, nothing_ends}
 use Rattle.condition.proofs.Lists.{agree_front, ends_same, none_same}
 use Rattle.condition.proofs.Parts.{span}
-use Rattle.condition.proofs.Characters.{read-on, stops}
-use Rattle.condition.proofs.Says.{value-says, unread-says}
+use Rattle.condition.proofs.Characters.{read_on, stops}
+use Rattle.condition.proofs.Says.{value_says, unread_says}
 
 -- a text that reads is a reading up to its end, and the text of a reading reads
 all_of : {n : ℕ} {w : List ℕ} → Reads n w → Reading condition n parentheses w []
@@ -31,16 +31,16 @@ module _ {n v : ℕ} (w : List ℕ) where
   whole {end = end} e x =
       let t = text x.reading.tree in
       let z : drop end w ≡ [] = drop_of_length-le w {i = end} (omega arith) in
-      value-says (reads_as x.reading (sym (x.reading.spelt ∙ ap (t ++◌) z ∙ append-nil t))) x.value
+      value_says (reads_as x.reading (sym (x.reading.spelt ∙ ap (t ++◌) z ∙ append-nil t))) x.value
 
-  pub not-whole : {b : Bool} {end : ℕ} → (end ≡ length w → ⊥) → FoundTo condition n v parentheses w 0 b end → Says n v w (Unread (end + 1))
-  not-whole {end = end} ne x =
+  pub not_whole : {b : Bool} {end : ℕ} → (end ≡ length w → ⊥) → FoundTo condition n v parentheses w 0 b end → Says n v w (Unread (end + 1))
+  not_whole {end = end} ne x =
       let t = x.reading.tree in
       let r = drop end w in
       let end_is : end ≡ length (text t) = omega (arith, span x) in
       let start : take end w ≡ text t = ap (take end) x.reading.spelt ∙ ap (λ (i : ℕ). take i (text t ++ r)) end_is ∙ take-append_seam (text t) r in
-      unread-says (stops x.within
-      (read-on (reads_as x.reading (sym start)))
+      unread_says (stops x.within
+      (read_on (reads_as x.reading (sym start)))
       (λ w' e y.
       let z = all_of y in
       let q = agree_front (text t) w' r end 0 (omega arith) (e ∙ ap (take (suc end)) x.reading.spelt) in
@@ -52,5 +52,5 @@ module _ {n v : ℕ} (w : List ℕ) where
       let y = f.failed in
       let x = y.alive.1 in
       let e : place ≡ f.passed = omega (arith, f.count) in
-      unread-says (rw e (stops y.short (record { behind = y.alive.0; reads = reads_as x (sym (x.spelt ∙ append-nil (text x.tree))) })
+      unread_says (rw e (stops y.short (record { behind = y.alive.0; reads = reads_as x (sym (x.spelt ∙ append-nil (text x.tree))) })
       (λ w' e u. y.dead w' [] e nothing_ends (all_of u))))

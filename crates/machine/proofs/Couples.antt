@@ -12,12 +12,12 @@ use Rattle.machine.specs.Runs.{Machine, size, couple, move, Sound}
 
 module _ (m : ℕ) where
   -- the couples of s are followed by those of s + 1
-  pub next-state : (s : ℕ) → (s + 1) * m ≡ s * m + m
-  next-state s = rw (add-one, suc-mul)
+  pub next_state : (s : ℕ) → (s + 1) * m ≡ s * m + m
+  next_state s = rw (add-one, suc-mul)
 
   -- a number is that of one couple only
-  pub same-couple : (s s' : ℕ) {v v' : ℕ} → v < m → v' < m → couple_at m s v ≡ couple_at m s' v' → (s ≡ s') × (v ≡ v')
-  same-couple s s' h h' e =
+  pub same_couple : (s s' : ℕ) {v v' : ℕ} → v < m → v' < m → couple_at m s v ≡ couple_at m s' v' → (s ≡ s') × (v ≡ v')
+  same_couple s s' h h' e =
       (sym (digits_div s h) ∙ ap (◌/ m) e ∙ digits_div s' h', sym (digits_mod s h) ∙ ap (◌% m) e ∙ digits_mod s' h')
 
 -- the largest sizes
@@ -42,11 +42,11 @@ some_setting states (suc m) p h = omega arith
 
 -- the couples of a machine
 module _ (m : Machine) where
-  pub couple-same : (s t : ℕ) {v w : ℕ} → v < size m → w < size m → couple m s v ≡ couple m t w → (s ≡ t) × (v ≡ w)
-  couple-same s t h k e = same-couple (size m) s t h k e
+  pub couple_same : (s t : ℕ) {v w : ℕ} → v < size m → w < size m → couple m s v ≡ couple m t w → (s ≡ t) × (v ≡ w)
+  couple_same s t h k e = same_couple (size m) s t h k e
 
-  pub couple-setting : (s : ℕ) {v : ℕ} → v < size m → couple m s v % size m ≡ v
-  couple-setting s h = digits_mod s h
+  pub couple_setting : (s : ℕ) {v : ℕ} → v < size m → couple m s v % size m ≡ v
+  couple_setting s h = digits_mod s h
 
 pub moves : {m : Machine} → Sound m → (s v : ℕ) → s < m.states → v < size m → move m s v < m.states
 moves ok s v h l = ok.closed _ (digits_lt h l)

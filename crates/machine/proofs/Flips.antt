@@ -16,13 +16,13 @@ pub record Single (m : Machine) : Type 0 where
   pub one : (v w : ℕ) → m.may_change v w ≡ true → differing m.inputs v w ≡ 1
 
 module _ (f : Frame) (T : List ℕ) where
-  pub machine-single : Single (machine_of f T)
-  machine-single = record { one = λ v w e. eqb-true _ _ ((and-eq-true_iff (usable f w) (eqb (differing f.inputs v w) 1)).0 e).1 }
+  pub machine_single : Single (machine_of f T)
+  machine_single = record { one = λ v w e. eqb-true _ _ ((and-eq-true_iff (usable f w) (eqb (differing f.inputs v w) 1)).0 e).1 }
 
   -- of the machine of a frame a flip is a change that is not ruled out
-  pub machine-flips : (several : Bool) (v i : ℕ) → i < f.inputs → (machine_by several f T).may_change v (flipped v (2 ^ i)) ≡ usable f (flipped v (2 ^ i))
-  machine-flips several v i l = rw (flip_differs f.inputs v i l, may-one several) (and-true _)
+  pub machine_flips : (several : Bool) (v i : ℕ) → i < f.inputs → (machine_by several f T).may_change v (flipped v (2 ^ i)) ≡ usable f (flipped v (2 ^ i))
+  machine_flips several v i l = rw (flip_differs f.inputs v i l, may_one several) (and-true _)
     where
-      may-one : (several : Bool) → may_alter several 1 ≡ true
-      may-one true = refl
-      may-one false = refl
+      may_one : (several : Bool) → may_alter several 1 ≡ true
+      may_one true = refl
+      may_one false = refl

@@ -49,28 +49,28 @@ module _ (v i : ℕ) where
   turned : ℕ
   turned = flipped v (2 ^ i)
 
-  flipped-shifted : turned / 2 ^ i ≡ toggled (v / 2 ^ i)
+  flipped_shifted : turned / 2 ^ i ≡ toggled (v / 2 ^ i)
   unfolding turned
-  flipped-shifted = rw flipped_is (high _ i (mod-lt v (pow_pos i)))
+  flipped_shifted = rw flipped_is (high _ i (mod-lt v (pow_pos i)))
 
-  flipped-rest : turned % 2 ^ i ≡ v % 2 ^ i
+  flipped_rest : turned % 2 ^ i ≡ v % 2 ^ i
   unfolding turned
-  flipped-rest = rw flipped_is (low _ i (mod-lt v (pow_pos i)))
+  flipped_rest = rw flipped_is (low _ i (mod-lt v (pow_pos i)))
 
   flipped_above : turned / 2 ^ suc i ≡ v / 2 ^ suc i
   unfolding turned
   flipped_above =
       let step : (x : ℕ) → x / 2 ^ suc i ≡ x / 2 ^ i / 2 = λ x. rw (← add-one i) (sym (shr-shr x i 1)) in
-      rw (step turned, step v, flipped-shifted) (toggled_half (v / 2 ^ i))
+      rw (step turned, step v, flipped_shifted) (toggled_half (v / 2 ^ i))
 
-  flipped-here : input v i ≡ input turned i → ⊥
-  flipped-here = rw flipped-shifted (toggled_low (v / 2 ^ i))
+  flipped_here : input v i ≡ input turned i → ⊥
+  flipped_here = rw flipped_shifted (toggled_low (v / 2 ^ i))
 
-  flipped-other : (j : ℕ) → (j ≡ i → ⊥) → input v j ≡ input turned j
-  flipped-other j ne = ⊎_elim below above (below_or j i)
+  flipped_other : (j : ℕ) → (j ≡ i → ⊥) → input v j ≡ input turned j
+  flipped_other j ne = ⊎_elim below above (below_or j i)
     where
       below : j < i → input v j ≡ input turned j
-      below l = sym (low_input v i j l) ∙ (rw (← flipped-rest) (low_input turned i j l))
+      below l = sym (low_input v i j l) ∙ (rw (← flipped_rest) (low_input turned i j l))
 
       above : i ≤ j → input v j ≡ input turned j
       above l =
@@ -78,8 +78,8 @@ module _ (v i : ℕ) where
           let step : (x : ℕ) → x / 2 ^ j ≡ x / 2 ^ suc i / 2 ^ (j - suc i) = λ x. (ap (λ (k : ℕ). x / 2 ^ k) e) ∙ sym (shr-shr x (suc i) (j - suc i)) in
           rw (step v, step turned, flipped_above)
 
-  flipped-small : (n : ℕ) → i < n → v < 2 ^ n → turned < 2 ^ n
-  flipped-small n l h =
+  flipped_small : (n : ℕ) → i < n → v < 2 ^ n → turned < 2 ^ n
+  flipped_small n l h =
       let e : n ≡ suc i + (n - suc i) = omega arith in
       let step : (x : ℕ) → x / 2 ^ n ≡ x / 2 ^ suc i / 2 ^ (n - suc i) = λ x. (ap (λ (k : ℕ). x / 2 ^ k) e) ∙ sym (shr-shr x (suc i) (n - suc i)) in
       let z : turned / 2 ^ n ≡ 0 = rw (step turned, flipped_above, ← step v) (div-eq_of_lt h) in
@@ -102,11 +102,11 @@ differ_one (suc n) v w i l here other = ⊎_elim
 -- one flipped input is one differing input
 pub flip_differs : (n v i : ℕ) → i < n → differing n v (flipped v (2 ^ i)) ≡ 1
 unfolding turned
-flip_differs n v i l = differ_one n v (flipped v (2 ^ i)) i l (flipped-here v i) (flipped-other v i)
+flip_differs n v i l = differ_one n v (flipped v (2 ^ i)) i l (flipped_here v i) (flipped_other v i)
 
 pub flip_small : (n v i : ℕ) → i < n → v < 2 ^ n → flipped v (2 ^ i) < 2 ^ n
 unfolding turned
-flip_small n v i l h = flipped-small v i n l h
+flip_small n v i l h = flipped_small v i n l h
 
 none_agree : (n v w : ℕ) → differing n v w ≡ 0 → (j : ℕ) → j < n → input v j ≡ input w j
 unfolding differing
@@ -166,6 +166,6 @@ differs_flip n v w hv hw e = (i, o.low, sym (mod-eq_of_lt hw) ∙ same_bits n w 
 
     all : (j : ℕ) → j < n → input w j ≡ input f j
     all j l = ⊎_elim
-        (λ k. rw k (binary (input v i) _ _ (mod-lt _ (omega arith)) (mod-lt _ (omega arith)) (mod-lt _ (omega arith)) o.here (flipped-here v i)))
-        (λ k. sym (o.other j l k) ∙ flipped-other v i j k)
+        (λ k. rw k (binary (input v i) _ _ (mod-lt _ (omega arith)) (mod-lt _ (omega arith)) (mod-lt _ (omega arith)) o.here (flipped_here v i)))
+        (λ k. sym (o.other j l k) ∙ flipped_other v i j k)
         (equal_or j i)

@@ -20,19 +20,19 @@ use Rattle.machine.proofs.Members.{in_front, in_back, in_either}
 use Rattle.machine.proofs.Order.{equal_or}
 use Rattle.verdict.specs.Checks.{Decides}
 use Rattle.verdict.proofs.Tests.{it_fails, decides_map, decides_equal, decides_either, decides_cases}
-use Rattle.machine.proofs.Shortest.{run-to-unique, followed-run}
+use Rattle.machine.proofs.Shortest.{run_to_unique, followed_run}
 
 longer : (m : Machine) (c : ℕ) (plan : List (List ℕ)) (ws : List ℕ) → VisitedBy m c plan → VisitedBy m c (plan ++ (ws ∷ []))
 longer m c plan ws (vs, i, j) = (vs, in_front vs plan (ws ∷ []) i, j)
 
 module _ {m : Machine} (ok : Sound m) where
-  pub plan-unique : {t : ℕ} {p q : List (List ℕ)} → Plan m t p → Plan m t q → p ≡ q
-  plan-unique empty empty = refl
-  plan-unique (pass x f) (pass y g) = plan-unique x y
-  plan-unique (pass {c} x f) (add {vs = vs} y n r) = absurd (n (subst (VisitedBy m c) (plan-unique x y) (f (vs, r.visitor))))
-  plan-unique (add {c} {vs = vs} x n r) (pass y g) = absurd (n (subst (VisitedBy m c) (sym (plan-unique x y)) (g (vs, r.visitor))))
-  plan-unique (add {c} {plan} {vs} x n r) (add {plan = q} {vs = ws} y k s) =
-      ap₂ (λ (a : List (List ℕ)) (b : List ℕ). a ++ (b ∷ [])) (plan-unique x y) (run-to-unique ok c vs ws r s)
+  pub plan_unique : {t : ℕ} {p q : List (List ℕ)} → Plan m t p → Plan m t q → p ≡ q
+  plan_unique empty empty = refl
+  plan_unique (pass x f) (pass y g) = plan_unique x y
+  plan_unique (pass {c} x f) (add {vs = vs} y n r) = absurd (n (subst (VisitedBy m c) (plan_unique x y) (f (vs, r.visitor))))
+  plan_unique (add {c} {vs = vs} x n r) (pass y g) = absurd (n (subst (VisitedBy m c) (sym (plan_unique x y)) (g (vs, r.visitor))))
+  plan_unique (add {c} {plan} {vs} x n r) (add {plan = q} {vs = ws} y k s) =
+      ap₂ (λ (a : List (List ℕ)) (b : List ℕ). a ++ (b ∷ [])) (plan_unique x y) (run_to_unique ok c vs ws r s)
 
 -- each member is a run
 pub plan_runs : {m : Machine} {t : ℕ} {p : List (List ℕ)} → Plan m t p → (vs : List ℕ) → In vs p → Run m vs
@@ -75,11 +75,11 @@ visited_or m c (vs ∷ plan) = decides_map to of (decides_either (among_or c (vi
 
 module _ {m : Machine} (marked : ℕ → Bool) (runTo : ℕ → List ℕ) where
   -- the computation gives the plan
-  pub planned-plan : (t : ℕ) → ((c : ℕ) → c < t → ((marked c ≡ true) × RunTo m c (runTo c)) ⊎ ((marked c ≡ false) × (Marked m c → ⊥))) → Plan m t (planned m marked runTo t)
+  pub planned_plan : (t : ℕ) → ((c : ℕ) → c < t → ((marked c ≡ true) × RunTo m c (runTo c)) ⊎ ((marked c ≡ false) × (Marked m c → ⊥))) → Plan m t (planned m marked runTo t)
   unfolding planned
-  planned-plan zero all = empty
-  planned-plan (suc t) all =
-      let x = planned-plan t (λ c l. all c (omega arith)) in ⊎_elim
+  planned_plan zero all = empty
+  planned_plan (suc t) all =
+      let x = planned_plan t (λ c l. all c (omega arith)) in ⊎_elim
       (λ e. rw e.0 (⊎_elim
       (λ f. rw f.0 (pass x (λ y. f.1)))
       (λ f. rw f.0 (add x f.1 e.1))
@@ -88,8 +88,8 @@ module _ {m : Machine} (marked : ℕ → Bool) (runTo : ℕ → List ℕ) where
       (all t (le_refl _))
 
 module _ {m : Machine} (ok : Sound m) where
-  pub listed-plan : (ranks parents : List ℕ) → Listed m ranks parents → Plan m (couples m) (plan_of m ranks parents)
-  listed-plan ranks parents x = planned-plan _ _ (couples m) (λ c l. ⊎_elim
-      (λ r. inl (rw (ne_eqb (get_or ranks c 0) unmarked (λ e. omega (arith, r.0))) refl, followed-run ok (λ d. get_or parents d 0) x.parent (get_or ranks c 0) c r.1))
+  pub listed_plan : (ranks parents : List ℕ) → Listed m ranks parents → Plan m (couples m) (plan_of m ranks parents)
+  listed_plan ranks parents x = planned_plan _ _ (couples m) (λ c l. ⊎_elim
+      (λ r. inl (rw (ne_eqb (get_or ranks c 0) unmarked (λ e. omega (arith, r.0))) refl, followed_run ok (λ d. get_or parents d 0) x.parent (get_or ranks c 0) c r.1))
       (λ r. inr (rw r.0 refl, r.1))
       (x.rank c l))

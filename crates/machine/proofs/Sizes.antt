@@ -11,8 +11,8 @@ module _ {n s i z : ℕ} (sized : Sized n s i) (settings : n ≤ most_inputs →
   pub settings_are : z ≡ 2 ^ n
   settings_are = settings sized.few_inputs
 
-  pub couples-are : s * z ≡ s * 2 ^ n
-  couples-are = ap (λ (x : ℕ). s * x) settings_are
+  pub couples_are : s * z ≡ s * 2 ^ n
+  couples_are = ap (λ (x : ℕ). s * x) settings_are
 
 pub couples_few : {n s i : ℕ} → Sized n s i → s * 2 ^ n ≤ most_couples
 couples_few {n} {s} z = couples_bound s (2 ^ n) z.few_states (settings_bound z.few_inputs)

@@ -24,12 +24,12 @@ module _ (m : Machine) where
       (λ e. absurd (n.nowhere (couple m s v) (record { s = s; v = v; t = move m s v; couple = record { state = h; setting = l; number = refl }; moves = refl; unrest = e })))
       (equal_or (move m (move m s v) v) (move m s v))
 
-  pub sound-machine : m.initial < m.states → None (Stateless m.table m.states (size m)) → None (Transient (table_moves m.table (size m)) m.states (size m)) → Sound m
-  sound-machine b n o = record { closed = closed n; calm = calm o; begins = b }
+  pub sound_machine : m.initial < m.states → None (Stateless m.table m.states (size m)) → None (Transient (table_moves m.table (size m)) m.states (size m)) → Sound m
+  sound_machine b n o = record { closed = closed n; calm = calm o; begins = b }
 
 module _ {m : Machine} where
-  pub sound-states : Sound m → None (Stateless m.table m.states (size m))
-  sound-states ok = record { nowhere = λ p x. let b = x.beyond in omega (arith, ok.closed p (couple_below x.couple)) }
+  pub sound_states : Sound m → None (Stateless m.table m.states (size m))
+  sound_states ok = record { nowhere = λ p x. let b = x.beyond in omega (arith, ok.closed p (couple_below x.couple)) }
 
-  pub sound-calm : Sound m → None (Transient (table_moves m.table (size m)) m.states (size m))
-  sound-calm ok = record { nowhere = λ p x. x.unrest (subst (λ (t : ℕ). move m t x.v ≡ t) x.moves (ok.calm x.s x.v x.couple.state x.couple.setting)) }
+  pub sound_calm : Sound m → None (Transient (table_moves m.table (size m)) m.states (size m))
+  sound_calm ok = record { nowhere = λ p x. x.unrest (subst (λ (t : ℕ). move m t x.v ≡ t) x.moves (ok.calm x.s x.v x.couple.state x.couple.setting)) }

@@ -10,7 +10,7 @@ use Rattle.machine.specs.Lists.{In}
 use Rattle.machine.specs.Runs.{Machine, size, couple, move, Sound, Starts, Changes, Goes, Run, visits_from, visits, Visitor}
 use Rattle.machine.specs.Shortest.{rests_from, rests}
 use Rattle.machine.specs.inner.Trails.{Steps, Trail}
-use Rattle.machine.proofs.Couples.{couple-same, couple-setting, moves}
+use Rattle.machine.proofs.Couples.{couple_same, couple_setting, moves}
 
 abbrev pub last_of : ℕ → List ℕ → ℕ
 last_of v [] = v
@@ -37,25 +37,25 @@ pub record Earlier (m : Machine) (c k : ℕ) : Type 0 where
   pub shorter : length path < k
 
 module _ (m : Machine) where
-  pub length-rests : (cs : List ℕ) (s v : ℕ) (ws : List ℕ) → length (rests_from m cs s v ws) ≡ length cs + length ws
-  length-rests cs s v [] = omega arith
-  length-rests cs s v (w ∷ ws) = omega (arith, length-rests (couple m s v ∷ cs) (move m s w) w ws)
+  pub length_rests : (cs : List ℕ) (s v : ℕ) (ws : List ℕ) → length (rests_from m cs s v ws) ≡ length cs + length ws
+  length_rests cs s v [] = omega arith
+  length_rests cs s v (w ∷ ws) = omega (arith, length_rests (couple m s v ∷ cs) (move m s w) w ws)
 
   pub length_back : (ps vs : List ℕ) → length (back m ps vs) ≡ length ps + length vs
   length_back [] vs = omega arith
   length_back (p ∷ ps) vs = omega (arith, length_back ps (p % size m ∷ vs))
 
   -- a run is told by its resting couples and its last setting
-  pub back-rests : (cs : List ℕ) (s v : ℕ) (ws : List ℕ) → v < size m → Goes m v ws → back m (rests_from m cs s v ws) (last_of v ws ∷ []) ≡ back m cs (v ∷ ws)
-  back-rests cs s v [] h g = refl
-  back-rests cs s v (w ∷ ws) h g =
-      back-rests (couple m s v ∷ cs) (move m s w) w ws g.0.below g.1 ∙ ap (λ (x : ℕ). back m cs (x ∷ w ∷ ws)) (couple-setting m s h)
+  pub back_rests : (cs : List ℕ) (s v : ℕ) (ws : List ℕ) → v < size m → Goes m v ws → back m (rests_from m cs s v ws) (last_of v ws ∷ []) ≡ back m cs (v ∷ ws)
+  back_rests cs s v [] h g = refl
+  back_rests cs s v (w ∷ ws) h g =
+      back_rests (couple m s v ∷ cs) (move m s w) w ws g.0.below g.1 ∙ ap (λ (x : ℕ). back m cs (x ∷ w ∷ ws)) (couple_setting m s h)
 
 -- the setting of a couple that is visited
 pub stepped : {m : Machine} {p c : ℕ} (x : Steps m p c) → c % size m ≡ x.to
 stepped {m} {p} {c} x = ⊎_elim
-    (λ e. ap (λ (y : ℕ). y % size m) e ∙ couple-setting m _ x.change.below)
-    (λ e. ap (λ (y : ℕ). y % size m) e ∙ couple-setting m _ x.change.below)
+    (λ e. ap (λ (y : ℕ). y % size m) e ∙ couple_setting m _ x.change.below)
+    (λ e. ap (λ (y : ℕ). y % size m) e ∙ couple_setting m _ x.change.below)
     x.visits
 
 -- forwards
@@ -78,14 +78,14 @@ module _ {m : Machine} (ok : Sound m) where
       here : (c ≡ couple m s w) ⊎ (c ≡ couple m (move m s w) w) → AtLast m c (rests_from m cs s v (w ∷ ws)) (last_of w ws) ⊎ Earlier m c (length cs + length (w ∷ ws))
       here e = now cs s v w ws c (t, step e) (stepped (step e))
 
-  at-start : (v : ℕ) (vs : List ℕ) (c : ℕ) → Starts m v → c ≡ couple m m.initial v
+  at_start : (v : ℕ) (vs : List ℕ) (c : ℕ) → Starts m v → c ≡ couple m m.initial v
       → AtLast m c (rests m (v ∷ vs)) (last_of v vs) ⊎ Earlier m c (length vs)
-  at-start v [] c h e = inl (record { trail = (v, h, e); setting = ap (λ (y : ℕ). y % size m) e ∙ couple-setting m _ h.below })
-  at-start v (w ∷ vs) c h e = inr (record { path = []; trail = (v, h, e); shorter = omega arith })
+  at_start v [] c h e = inl (record { trail = (v, h, e); setting = ap (λ (y : ℕ). y % size m) e ∙ couple_setting m _ h.below })
+  at_start v (w ∷ vs) c h e = inr (record { path = []; trail = (v, h, e); shorter = omega arith })
 
-  pub visited-trail : (c v : ℕ) (vs : List ℕ) → Visitor m c (v ∷ vs) → AtLast m c (rests m (v ∷ vs)) (last_of v vs) ⊎ Earlier m c (length vs)
-  visited-trail c v vs x = ⊎_elim
-      (at-start v vs c x.run.0)
+  pub visited_trail : (c v : ℕ) (vs : List ℕ) → Visitor m c (v ∷ vs) → AtLast m c (rests m (v ∷ vs)) (last_of v vs) ⊎ Earlier m c (length vs)
+  visited_trail c v vs x = ⊎_elim
+      (at_start v vs c x.run.0)
       (λ i. ⊎_elim inl (λ y. inr (record { path = y.path; trail = y.trail; shorter = omega (arith, y.shorter) }))
       (forward [] m.initial v vs ok.begins x.run.0.below x.run.0.rests (v, x.run.0, refl) x.run.1 c i))
       x.sees
@@ -100,13 +100,13 @@ module _ {m : Machine} where
   -- a resting couple that is visited by a change is the one after the change
   pub settled : {p : ℕ} (s v : ℕ) → v < size m → move m s v ≡ s → (x : Steps m p (couple m s v)) → (move m x.state v ≡ s) × (x.to ≡ v)
   settled s v h r x = ⊎_elim
-      (λ e. let (f, g) = couple-same m s x.state h x.change.below e in (rw (← f) r, sym g))
-      (λ e. let (f, g) = couple-same m s (move m x.state x.to) h x.change.below e in (rw g (sym f), sym g))
+      (λ e. let (f, g) = couple_same m s x.state h x.change.below e in (rw (← f) r, sym g))
+      (λ e. let (f, g) = couple_same m s (move m x.state x.to) h x.change.below e in (rw g (sym f), sym g))
       x.visits
 
   backward : (ps : List ℕ) (s v : ℕ) (ws : List ℕ) → v < size m → move m s v ≡ s → Trail m (couple m s v) ps → Goes m v ws → Unrolled m ps s v ws
   backward [] s v ws h r t g =
-      let (e, f) = couple-same m s m.initial h t.1.below t.2 in
+      let (e, f) = couple_same m s m.initial h t.1.below t.2 in
       record {
         run = (subst (Starts m) (sym f) t.1, g);
         sees = λ c i. inr (subst (λ (x : ℕ). In c (visits_from m x ws)) e i);
@@ -115,7 +115,7 @@ module _ {m : Machine} where
   backward (p ∷ ps) s v ws h r t g =
       let x = t.1 in
       let (f, q) = settled s v h r x in
-      let e : p % size m ≡ x.from = ap (λ (y : ℕ). y % size m) x.here ∙ couple-setting m _ x.below in
+      let e : p % size m ≡ x.from = ap (λ (y : ℕ). y % size m) x.here ∙ couple_setting m _ x.below in
       let u = backward ps x.state x.from (v ∷ ws) x.below x.rests (subst (λ (c : ℕ). Trail m c ps) x.here t.0) (subst (λ (y : ℕ). Changes m x.from y) q x.change, g) in
       record {
         run = subst (λ (y : ℕ). Run m (back m ps (y ∷ v ∷ ws))) (sym e) u.run;
@@ -124,13 +124,13 @@ module _ {m : Machine} where
       }
 
   -- a trail is a run
-  pub trail-run : (c : ℕ) (ps : List ℕ) → Trail m c ps → Visitor m c (along m ps c) × (rests m (along m ps c) ≡ ps)
-  trail-run c [] t =
-      let e : c % size m ≡ t.0 = ap (λ (y : ℕ). y % size m) t.2 ∙ couple-setting m _ t.1.below in
+  pub trail_run : (c : ℕ) (ps : List ℕ) → Trail m c ps → Visitor m c (along m ps c) × (rests m (along m ps c) ≡ ps)
+  trail_run c [] t =
+      let e : c % size m ≡ t.0 = ap (λ (y : ℕ). y % size m) t.2 ∙ couple_setting m _ t.1.below in
       (record { run = (subst (Starts m) (sym e) t.1, tt); sees = inl (rw e t.2) }, refl)
-  trail-run c (p ∷ ps) t =
+  trail_run c (p ∷ ps) t =
       let x = t.1 in
-      let e : p % size m ≡ x.from = ap (λ (y : ℕ). y % size m) x.here ∙ couple-setting m _ x.below in
+      let e : p % size m ≡ x.from = ap (λ (y : ℕ). y % size m) x.here ∙ couple_setting m _ x.below in
       let u = backward ps x.state x.from (x.to ∷ []) x.below x.rests (subst (λ (d : ℕ). Trail m d ps) x.here t.0) (x.change, tt) in
       let same : back m ps (x.from ∷ x.to ∷ []) ≡ along m (p ∷ ps) c = ap₂ (λ (a b : ℕ). back m ps (a ∷ b ∷ [])) (sym e) (sym (stepped x)) in
       let seen : In c (visits_from m x.state (x.to ∷ [])) = ⊎_elim inl (λ q. inr (inl q)) x.visits in (

@@ -21,49 +21,49 @@ use Rattle.marking.specs.inner.Parts.{Weighed}
 use Rattle.marking.specs.declared.rounds.Heads.{Heads}
 use Rattle.marking.specs.declared.rounds.Part.{Part}
 use Rattle.marking.specs.declared.rounds.Ends.{Ends}
-use Rattle.marking.proofs.Spreading.{spread-kept}
-use Rattle.marking.proofs.Heads.{going-none}
+use Rattle.marking.proofs.Spreading.{spread_kept}
+use Rattle.marking.proofs.Heads.{going_none}
 use Rattle.marking.proofs.Turning.{head_moves}
 use Rattle.marking.proofs.Progress.{Alters}
-use Rattle.marking.proofs.Filling.{next-room, fill-last, heads-long, spreads-one, spreads-two, fill-next, fill-moves}
+use Rattle.marking.proofs.Filling.{next_room, fill_last, heads_long, spreads_one, spreads_two, fill_next, fill_moves}
 
 -- whether a head is left, by the tests of the code
 module _ (several : Bool) (h : Heads) (t : ℕ) where
-  pub left-second : h.second ≡ true → Decides (HeadLeft several h t) true
-  left-second e = rw e (it_holds tt)
+  pub left_second : h.second ≡ true → Decides (HeadLeft several h t) true
+  left_second e = rw e (it_holds tt)
 
   pub left_none : h.second ≡ false → t ≤ h.tail → Decides (HeadLeft several h t) false
   left_none e l = rw e (it_fails (λ x. omega (arith, x.some)))
 
-  pub left-many : h.second ≡ false → h.tail < t → several ≡ true → Decides (HeadLeft several h t) (ltb h.many h.tail)
-  left-many e l f = rw (e, f) (decides_lt h.many h.tail (λ k. record { some = l; head = k }) (λ x. x.head))
+  pub left_many : h.second ≡ false → h.tail < t → several ≡ true → Decides (HeadLeft several h t) (ltb h.many h.tail)
+  left_many e l f = rw (e, f) (decides_lt h.many h.tail (λ k. record { some = l; head = k }) (λ x. x.head))
 
   pub left_one : h.second ≡ false → h.tail < t → several ≡ false → Decides (HeadLeft several h t) (ltb h.single h.tail)
   left_one e l f = rw (e, f) (decides_lt h.single h.tail (λ k. record { some = l; head = k }) (λ x. x.head))
 
 module _ {m : Machine} {z : ℕ} (checked : Checked m) (are : z ≡ size m) (R P Q : List ℕ) (h : Heads) where
   -- the part of the next half
-  pub half-asked : (b several : Bool) → TurningBy b m z R P Q h → LeftBy b several h (length R) → PartAsked b R Q h
-  half-asked true several x l = tt
-  half-asked false several x l = next-room checked are x several l.head
+  pub half_asked : (b several : Bool) → TurningBy b m z R P Q h → LeftBy b several h (length R) → PartAsked b R Q h
+  half_asked true several x l = tt
+  half_asked false several x l = next_room checked are x several l.head
 
-  pub half-spreads : (b : Bool) (p : Part) → TurningBy b m z R P Q h → PartOf b R Q h p → Spreading m.table R P Q z m.inputs p.weight p.from p.to h.tail
-  half-spreads true p x (e, f, g) = rw (e, f, g) (spreads-two checked are x.progress x.next x.first)
-  half-spreads false p x (e, f, y) = rw (e, f) (spreads-one checked are x y)
+  pub half_spreads : (b : Bool) (p : Part) → TurningBy b m z R P Q h → PartOf b R Q h p → Spreading m.table R P Q z m.inputs p.weight p.from p.to h.tail
+  half_spreads true p x (e, f, g) = rw (e, f, g) (spreads_two checked are x.progress x.next x.first)
+  half_spreads false p x (e, f, y) = rw (e, f) (spreads_one checked are x y)
 
   module _ (p : Part) (e : Ends) {R₁ P₁ Q₁ : List ℕ} where
     -- the second head's weight, after the first half
-    pub half-light : (b several : Bool) → TurningBy b m z R P Q h → LeftBy b several h (length R) → PartOf b R Q h p
+    pub half_light : (b several : Bool) → TurningBy b m z R P Q h → LeftBy b several h (length R) → PartOf b R Q h p
         → SpreadAs m z b p.weight p.from p.to R P Q h.tail R₁ P₁ Q₁ e.head e.tail → b ≡ false → Light R₁ Q₁ h.many × (length R₁ ≤ most_couples)
-    half-light true several x l y u f = absurd (true≢false f)
-    half-light false several x l y u f =
-        let (k, light, _, few) = next-room checked are x several l.head in
+    half_light true several x l y u f = absurd (true≢false f)
+    half_light false several x l y u f =
+        let (k, light, _, few) = next_room checked are x several l.head in
         let s = u.going.spread in
         let c = s.kept h.many k in (
           record {
             long = omega (arith, s.room.long, s.room.parents_long, light.long);
             low = rw (c, s.same_length) light.low;
-            light = rw (spread-kept x.room s h.many k) light.light;
+            light = rw (spread_kept x.room s h.many k) light.light;
           },
           rw s.same_length few,
         )
@@ -74,10 +74,10 @@ module _ {m : Machine} {z : ℕ} (checked : Checked m) (are : z ≡ size m) (R P
           → SpreadAs m z true p.weight p.from p.to R P Q h.tail R₁ P₁ Q₁ e.head e.tail → GoneOf true R₁ Q₁ h p e h' → TurnedTo m z h R₁ P₁ Q₁ h'
       second was x (f, g, i) v (w, now) =
           let u = rw (f, g, i) at v in
-          let y = fill-next checked are x.progress x.next x.first alters u in
+          let y = fill_next checked are x.progress x.next x.first alters u in
           record {
             turning = rw (now, w.single_is, w.many_is, w.tail_is) y;
-            less = rw (was, now, w.single_is, w.many_is) (omega (arith, moved u, heads-long checked are y));
+            less = rw (was, now, w.single_is, w.many_is) (omega (arith, moved u, heads_long checked are y));
           }
         where
           moved : SpreadAs m z true h.weight h.many h.end R P Q h.tail R₁ P₁ Q₁ e.head e.tail → h.many < e.head
@@ -90,7 +90,7 @@ module _ {m : Machine} {z : ℕ} (checked : Checked m) (are : z ≡ size m) (R P
           → SpreadAs m z false p.weight p.from p.to R P Q h.tail R₁ P₁ Q₁ e.head e.tail → GoneOf false R₁ Q₁ h p e h' → TurnedTo m z h R₁ P₁ Q₁ h'
       first true now was several x l (f, g, y) v (w, d) =
           let u = rw (f, g) at v in
-          let (b, _, _, _) = next-room checked are x several l.head in
+          let (b, _, _, _) = next_room checked are x several l.head in
           record {
             turning = rw now (record {
               weights₀ = R;
@@ -103,28 +103,28 @@ module _ {m : Machine} {z : ℕ} (checked : Checked m) (are : z ≡ size m) (R P
               before = rw (w.many_is, w.end_is, g) b;
               due = rw (w.many_is, w.weight_is) (d.holds now);
             });
-            less = rw (was, now, w.single_is, w.many_is) (omega (arith, u.going.from, u.going.to, x.a_in, x.b_in, heads-long checked are x));
+            less = rw (was, now, w.single_is, w.many_is) (omega (arith, u.going.from, u.going.to, x.a_in, x.b_in, heads_long checked are x));
           }
       first false now was several x l (f, g, y) v (w, d) =
           let u = rw (f, g) at v in
-          let s = spreads-two checked are x y u in
-          let n : SpreadAs m z true p.weight h.many h.tail R₁ P₁ Q₁ e.tail R₁ P₁ Q₁ h.many e.tail = record { going = going-none m s true; stop = λ _ i. d.fails now i } in
-          let q = fill-next checked are x y u alters n in
+          let s = spreads_two checked are x y u in
+          let n : SpreadAs m z true p.weight h.many h.tail R₁ P₁ Q₁ e.tail R₁ P₁ Q₁ h.many e.tail = record { going = going_none m s true; stop = λ _ i. d.fails now i } in
+          let q = fill_next checked are x y u alters n in
           record {
             turning = rw (now, w.single_is, w.many_is, w.tail_is) q;
-            less = rw (was, now, w.single_is, w.many_is) (omega (arith, fill-moves checked are x y u alters n, heads-long checked are q));
+            less = rw (was, now, w.single_is, w.many_is) (omega (arith, fill_moves checked are x y u alters n, heads_long checked are q));
           }
 
-      pub half-turned : (b several : Bool) → h.second ≡ b → TurningBy b m z R P Q h → LeftBy b several h (length R) → PartOf b R Q h p
+      pub half_turned : (b several : Bool) → h.second ≡ b → TurningBy b m z R P Q h → LeftBy b several h (length R) → PartOf b R Q h p
           → SpreadAs m z b p.weight p.from p.to R P Q h.tail R₁ P₁ Q₁ e.head e.tail → GoneOf b R₁ Q₁ h p e h' → TurnedTo m z h R₁ P₁ Q₁ h'
-      half-turned true several was x l = second was x
-      half-turned false several was x l = first h'.second refl was several x l
+      half_turned true several was x l = second was x
+      half_turned false several was x l = first h'.second refl was several x l
 
   -- where no head is left, the weights and parents of all couples are there
-  pub half-last : (b several : Bool) → (several ≡ false → Single m) → TurningBy b m z R P Q h → (LeftBy b several h (length R) → ⊥) → Weighed m R P
-  half-last true several single x n = absurd (n tt)
-  half-last false several single x n = fill-last checked are x several single n
+  pub half_last : (b several : Bool) → (several ≡ false → Single m) → TurningBy b m z R P Q h → (LeftBy b several h (length R) → ⊥) → Weighed m R P
+  half_last true several single x n = absurd (n tt)
+  half_last false several single x n = fill_last checked are x several single n
 
-  pub half-long : (b : Bool) → TurningBy b m z R P Q h → length R ≡ couples m
-  half-long true x = x.first.going.spread.same_length ∙ x.progress.total
-  half-long false x = x.total
+  pub half_long : (b : Bool) → TurningBy b m z R P Q h → length R ≡ couples m
+  half_long true x = x.first.going.spread.same_length ∙ x.progress.total
+  half_long false x = x.total

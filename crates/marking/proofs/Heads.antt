@@ -16,7 +16,7 @@ use Rattle.machine.specs.Runs.{Machine}
 use Rattle.machine.proofs.Order.{equal_or}
 use Rattle.machine.proofs.Small.{pigeons}
 use Rattle.marking.specs.inner.Queue.{Between, Room, Pushed}
-use Rattle.marking.proofs.Spreading.{spread_none, spread-one, spread-then, spread-as, spread-kept}
+use Rattle.marking.proofs.Spreading.{spread_none, spread_one, spread_then, spread_as, spread_kept}
 use Rattle.several.specs.Weights.{extra, unweighed}
 use Rattle.marking.specs.inner.Engine.{weight_of, ByRest, Expands, Spreading, Going, SpreadAs}
 
@@ -31,8 +31,8 @@ pub room_full : {R P Q : List ℕ} {tail : ℕ} → Room R P Q tail → tail ≤
 room_full {R} {P} {Q} {tail} x = pigeons (length R) tail (λ i. get_or Q i 0) x.low x.once
 
 module _ (m : Machine) {R P Q : List ℕ} {z r a e tail : ℕ} (x : Spreading m.table R P Q z m.inputs r a e tail) (many : Bool) where
-  pub going-none : Going m z many r a e R P Q tail R P Q a tail
-  going-none = record { spread = spread_none x.room (λ q c ((j, u, v, w), b). omega arith); from = le_refl a; to = x.from; over = λ i u v. absurd (omega arith) }
+  pub going_none : Going m z many r a e R P Q tail R P Q a tail
+  going_none = record { spread = spread_none x.room (λ q c ((j, u, v, w), b). omega arith); from = le_refl a; to = x.from; over = λ i u v. absurd (omega arith) }
 
   module _ {R' P' Q' : List ℕ} {h t : ℕ} (g : Going m z many r a e R P Q tail R' P' Q' h t) (l : h < e) where
     -- the couple at the head
@@ -43,23 +43,23 @@ module _ (m : Machine) {R P Q : List ℕ} {z r a e tail : ℕ} (x : Spreading m.
         let u : h < t = omega (arith, x.to, g.spread.more) in
         (omega (arith, y.long), omega (arith, y.few), y.low h u, u)
 
-    head-weight : get_or R' (get_or Q' h 0) 0 ≡ get_or R (get_or Q h 0) 0
-    head-weight = spread-kept x.room g.spread h (omega (arith, x.to))
+    head_weight : get_or R' (get_or Q' h 0) 0 ≡ get_or R (get_or Q h 0) 0
+    head_weight = spread_kept x.room g.spread h (omega (arith, x.to))
 
-    pub head-light : get_or R' (get_or Q' h 0) 0 + suc extra ≤ unweighed
-    head-light = rw head-weight (x.light h l)
+    pub head_light : get_or R' (get_or Q' h 0) 0 + suc extra ≤ unweighed
+    head_light = rw head_weight (x.light h l)
 
-    pub head-expands : Expands m.table R' P' Q' z m.inputs t (get_or Q' h 0) r
-    head-expands = record { rows = rw g.spread.same_length x.rows; room = g.spread.room; below = head_in.2; small = x.small }
+    pub head_expands : Expands m.table R' P' Q' z m.inputs t (get_or Q' h 0) r
+    head_expands = record { rows = rw g.spread.same_length x.rows; room = g.spread.room; below = head_in.2; small = x.small }
 
     pub going_more : {R'' P'' Q'' : List ℕ} {t' : ℕ} → get_or R' (get_or Q' h 0) 0 + weight_of many ≡ r
         → Pushed (ByRest m z many (get_or Q' h 0)) r (get_or Q' h 0) R' P' Q' t R'' P'' Q'' t' → Going m z many r a e R P Q tail R'' P'' Q'' (h + 1) t'
     going_more d p = record {
-      spread = spread-as to of (spread-then x.small g.spread (spread-one p));
+      spread = spread_as to of (spread_then x.small g.spread (spread_one p));
       from = omega (arith, g.from);
       to = omega arith;
       over = λ i u v. ⊎_elim
-          (λ (f : i ≡ h). subst (λ (j : ℕ). get_or R (get_or Q j 0) 0 + weight_of many ≡ r) (sym f) (rw (← head-weight) d))
+          (λ (f : i ≡ h). subst (λ (j : ℕ). get_or R (get_or Q j 0) 0 + weight_of many ≡ r) (sym f) (rw (← head_weight) d))
           (λ (f : i ≡ h → ⊥). g.over i u (omega arith))
           (equal_or i h);
     }
@@ -77,8 +77,8 @@ module _ (m : Machine) {R P Q : List ℕ} {z r a e tail : ℕ} (x : Spreading m.
             (λ (f : j ≡ h → ⊥). inl ((j, u, omega arith, w), b))
             (equal_or j h)
 
-    pub going-stop : (get_or R' (get_or Q' h 0) 0 + weight_of many ≡ r → ⊥) → SpreadAs m z many r a e R P Q tail R' P' Q' h t
-    going-stop d = record { going = g; stop = λ _ f. d (rw head-weight f) }
+    pub going_stop : (get_or R' (get_or Q' h 0) 0 + weight_of many ≡ r → ⊥) → SpreadAs m z many r a e R P Q tail R' P' Q' h t
+    going_stop d = record { going = g; stop = λ _ f. d (rw head_weight f) }
 
 pub going_end : {m : Machine} {R P Q R' P' Q' : List ℕ} {z r a e tail h t : ℕ} {many : Bool} → Going m z many r a e R P Q tail R' P' Q' h t → e ≤ h → SpreadAs m z many r a e R P Q tail R' P' Q' h t
 going_end g l = record { going = g; stop = λ k f. omega arith }

@@ -11,24 +11,24 @@ use borrow.Author.Tests.{lt-ltb, le-ltb}
 use Rattle.verdict.specs.Checks.{Passed, Judged}
 use Rattle.verdict.specs.Buffers.{Filled, Left}
 use Rattle.verdict.specs.declared.Answer.{Answer}
-use Rattle.verdict.proofs.Fills.{filled_free, left-same, left-blank, left-filled}
+use Rattle.verdict.proofs.Fills.{filled_free, left_same, left_blank, left_filled}
 use Rattle.verdict.proofs.Order.{judged_on, judged_stop, judged_number, judged_passes, roomy}
 use Rattle.machine.specs.Limits.{most_inputs, most_couples, unmarked}
 use Rattle.machine.specs.Runs.{Machine, machine_of, size, couples, RankOrUnmarked}
 use Rattle.machine.specs.declared.Frame.{Frame}
 use Rattle.machine.proofs.Order.{equal_or}
-use Rattle.machine.proofs.Sizes.{couples-are, couples_few}
+use Rattle.machine.proofs.Sizes.{couples_are, couples_few}
 use Rattle.several.specs.Several.{singly}
 use Rattle.several.specs.Weights.{extra, unweighed, WeightOrNone}
 use Rattle.several.proofs.Single.{singly_by}
-use Rattle.several.proofs.Listed.{weight-rank}
+use Rattle.several.proofs.Listed.{weight_rank}
 use Rattle.tables.specs.Tables.{Tabled, move_checks, start_checks}
 use Rattle.tables.specs.inner.Fits.{Checked}
-use Rattle.tables.proofs.Gate.{size-passed}
+use Rattle.tables.proofs.Gate.{size_passed}
 use Rattle.marking.specs.Marking.{MarkedAs, ParentedAs}
 use Rattle.marking.specs.inner.Parts.{SizedAs, Exact, Blank, Weighed, WeighedAs, rank_of, ExactAs}
 use Rattle.marking.proofs.Checks.{without_parents}
-use Rattle.marking.proofs.Parts.{part_length, left-part}
+use Rattle.marking.proofs.Parts.{part_length, left_part}
 
 -- blank buffers
 pub blanked : {m : Machine} {W P W₁ P₁ : List ℕ} → Exact m W P → Filled (length W) (λ c x. x ≡ unweighed) W W₁ → Filled (length P) (λ c x. x ≡ 0) P P₁ → Blank m W₁ P₁
@@ -40,18 +40,18 @@ blanked exact weights parents = record {
 
 -- the checks of the table refuse, or pass
 module _ {m : Machine} {a : Answer} {W P : List ℕ} (v : Judged (move_checks m ++ start_checks m) Passed a) where
-  pub weigh-refused : (a.number ≡ 0 → ⊥) → Blank m W P → WeighedAs m a W P
-  weigh-refused n blank = record { verdict = v; done = λ e. absurd (n e); refused = λ _. blank }
+  pub weigh_refused : (a.number ≡ 0 → ⊥) → Blank m W P → WeighedAs m a W P
+  weigh_refused n blank = record { verdict = v; done = λ e. absurd (n e); refused = λ _. blank }
 
-  pub weigh-passed : a.number ≡ 0 → Checked m → Weighed m W P → WeighedAs m a W P
-  weigh-passed e checked weighed = record { verdict = v; done = λ _. (weighed, checked); refused = λ n. absurd (n e) }
+  pub weigh_passed : a.number ≡ 0 → Checked m → Weighed m W P → WeighedAs m a W P
+  weigh_passed e checked weighed = record { verdict = v; done = λ _. (weighed, checked); refused = λ n. absurd (n e) }
 
 -- a buffer whose elements are all needed
 left_whole : {number t blank : ℕ} {Value : ℕ → ℕ → Type 0} {a b : List ℕ} → ((number ≡ 0 → ⊥) → (4 ≤ number) × (number ≤ 13)) → length a ≡ t → length b ≡ t
     → (number ≡ 0 → (c : ℕ) → c < t → Value c (get_or b c 0)) → ((number ≡ 0 → ⊥) → (c : ℕ) → c < t → get_or b c 0 ≡ blank) → Left number t blank Value a b
 left_whole {number} {t} {a = a} {b} range la lb full empty = ⊎_elim
-    (λ e. left-filled (inl e) (all (full e)))
-    (λ n. let (low, high) = range n in left-blank low high (filled_free {Value = λ c x. Unit {0}} a (λ c x. tt)) (all (empty n)))
+    (λ e. left_filled (inl e) (all (full e)))
+    (λ n. let (low, high) = range n in left_blank low high (filled_free {Value = λ c x. Unit {0}} a (λ c x. tt)) (all (empty n)))
     (equal_or number 0)
   where
     all : {Is : ℕ → ℕ → Type 0} → ((c : ℕ) → c < t → Is c (get_or b c 0)) → Filled t Is a b
@@ -62,7 +62,7 @@ rank_cell : {m : Machine} {c x : ℕ} → Checked m → WeightOrNone m c x → R
 rank_cell {m} {c} {x} checked w = ⊎_elim
     (λ (l, r). let h : x < extra = omega (arith, couples_few checked.tabled.sized) in rw (lt-ltb x extra h) (inl (omega (arith, couples_few checked.tabled.sized), r)))
     (λ (l, n). rw (le-ltb x extra l) (inr (refl, n)))
-    (weight-rank checked.sound (couples_few checked.tabled.sized) w)
+    (weight_rank checked.sound (couples_few checked.tabled.sized) w)
 
 -- the buffers behind the checks of the table, the ranks told where the queue was
 pub marked : {m : Machine} {R W P Q R₁ W₁ P₁ : List ℕ} {a : Answer} → Exact m W P → length R ≡ couples m → length Q ≡ length R → WeighedAs m a W₁ P₁
@@ -89,41 +89,41 @@ marked {m} {R} {W} {P} {Q} {R₁} {W₁} {P₁} {a} exact all queue y ranks = re
 pub keeping : {m : Machine} {R W P : List ℕ} {a : Answer} → SizedAs m (length R) (length W) (length P) a → (a.number ≡ 0 → ⊥) → ParentedAs m R W P a R W P
 keeping {m} x e =
     let (low, high) = judged_number 1 3 x.verdict refl e in
-    record { verdict = judged_stop (move_checks m ++ start_checks m) x.verdict e; ranks = left-same low high; weights = left-same low high; parents = left-same low high }
+    record { verdict = judged_stop (move_checks m ++ start_checks m) x.verdict e; ranks = left_same low high; weights = left_same low high; parents = left_same low high }
 
 -- with room for all, on the first elements
 module _ {m : Machine} {z : ℕ} (R W P : List ℕ) {a : Answer} (x : SizedAs m (length R) (length W) (length P) a) (e : a.number ≡ 0) (settings : m.inputs ≤ most_inputs → z ≡ size m) where
   pub tabled : Tabled m
-  tabled = let p = judged_passes 3 x.verdict refl e in size-passed m (p.0, (p.1.0, tt))
+  tabled = let p = judged_passes 3 x.verdict refl e in size_passed m (p.0, (p.1.0, tt))
 
   total : m.states * z ≡ couples m
-  total = couples-are tabled.sized settings
+  total = couples_are tabled.sized settings
 
-  pub needed-few : m.states * z ≤ most_couples
-  needed-few = rw total (couples_few tabled.sized)
+  pub needed_few : m.states * z ≤ most_couples
+  needed_few = rw total (couples_few tabled.sized)
 
   pub ranks_room : m.states * z ≤ length R
   ranks_room = rw total (roomy (judged_passes 3 x.verdict refl e).1.1.0)
 
-  pub weights-room : m.states * z ≤ length W
-  weights-room = rw total (roomy (judged_passes 3 x.verdict refl e).1.1.1.0)
+  pub weights_room : m.states * z ≤ length W
+  weights_room = rw total (roomy (judged_passes 3 x.verdict refl e).1.1.1.0)
 
-  pub parents-room : m.states * z ≤ length P
-  parents-room = rw total (roomy (judged_passes 3 x.verdict refl e).1.1.1.1.0)
+  pub parents_room : m.states * z ≤ length P
+  parents_room = rw total (roomy (judged_passes 3 x.verdict refl e).1.1.1.1.0)
 
   pub exactly : Exact m (take (m.states * z - 0) W) (take (m.states * z - 0) P)
-  exactly = record { weights_are = part_length (m.states * z) W weights-room ∙ total; parents_are = part_length (m.states * z) P parents-room ∙ total }
+  exactly = record { weights_are = part_length (m.states * z) W weights_room ∙ total; parents_are = part_length (m.states * z) P parents_room ∙ total }
 
-  pub ranks-exactly : length (take (m.states * z - 0) R) ≡ couples m
-  ranks-exactly = part_length (m.states * z) R ranks_room ∙ total
+  pub ranks_exactly : length (take (m.states * z - 0) R) ≡ couples m
+  ranks_exactly = part_length (m.states * z) R ranks_room ∙ total
 
   pub parented : {b : Answer} {R₁ W₁ P₁ : List ℕ} → ExactAs m (take (m.states * z - 0) R) (take (m.states * z - 0) W) (take (m.states * z - 0) P) b R₁ W₁ P₁
       → ParentedAs m R W P b (R₁ ++ drop (m.states * z - 0) R) (W₁ ++ drop (m.states * z - 0) W) (P₁ ++ drop (m.states * z - 0) P)
   parented y = record {
     verdict = judged_on 3 x.verdict refl e y.verdict;
-    ranks = left-part (m.states * z) R ranks_room total y.ranks;
-    weights = left-part (m.states * z) W weights-room total y.weights;
-    parents = left-part (m.states * z) P parents-room total y.parents;
+    ranks = left_part (m.states * z) R ranks_room total y.ranks;
+    weights = left_part (m.states * z) W weights_room total y.weights;
+    parents = left_part (m.states * z) P parents_room total y.parents;
   }
 
 -- of single changes, in arrays for as many couples as a machine may have

@@ -13,8 +13,8 @@ part_length k a h = omega (arith, length-take (k - 0) a)
 
 -- the part and what stands behind it
 module _ {t : ℕ} (k : ℕ) (a : List ℕ) (room : k ≤ length a) (all : k ≡ t) where
-  filled-part : {Value : ℕ → ℕ → Type 0} {b : List ℕ} → Filled t Value (take (k - 0) a) b → Filled t Value a (b ++ drop (k - 0) a)
-  filled-part {Value} {b} f =
+  filled_part : {Value : ℕ → ℕ → Type 0} {b : List ℕ} → Filled t Value (take (k - 0) a) b → Filled t Value a (b ++ drop (k - 0) a)
+  filled_part {Value} {b} f =
       let l : length b ≡ t = f.same_length ∙ part_length k a room ∙ all in
       record {
         same_length = omega (arith, length-append b (drop (k - 0) a), length-drop (k - 0) a);
@@ -25,9 +25,9 @@ module _ {t : ℕ} (k : ℕ) (a : List ℕ) (room : k ≤ length a) (all : k ≡
             ap (λ (i : ℕ). get_or (b ++ drop (k - 0) a) i 0) e ∙ get_or-append-add b (drop (k - 0) a) (c - t) 0 ∙ get_or-drop (k - 0) a (c - t) 0 ∙ ap (λ (i : ℕ). get_or a i 0) g;
       }
 
-  pub left-part : {number blank : ℕ} {Value : ℕ → ℕ → Type 0} {b : List ℕ} → Left number t blank Value (take (k - 0) a) b → Left number t blank Value a (b ++ drop (k - 0) a)
-  left-part x = record {
+  pub left_part : {number blank : ℕ} {Value : ℕ → ℕ → Type 0} {b : List ℕ} → Left number t blank Value (take (k - 0) a) b → Left number t blank Value a (b ++ drop (k - 0) a)
+  left_part x = record {
     unchanged = λ h l. ap (λ (y : List ℕ). y ++ drop (k - 0) a) (x.unchanged h l) ∙ take-append-drop (k - 0) a;
-    blanked = λ h l. filled-part (x.blanked h l);
-    filled = λ h. filled-part (x.filled h);
+    blanked = λ h l. filled_part (x.blanked h l);
+    filled = λ h. filled_part (x.filled h);
   }

@@ -21,16 +21,16 @@ use Rattle.machine.proofs.Flips.{Single}
 use Rattle.several.specs.Several.{multiple}
 use Rattle.several.specs.Weights.{extra, unweighed}
 use Rattle.several.specs.inner.Lightest.{step, Complete}
-use Rattle.several.proofs.Runs.{lightest-small}
-use Rattle.several.proofs.Listed.{weight-listed, parent_listed}
+use Rattle.several.proofs.Runs.{lightest_small}
+use Rattle.several.proofs.Listed.{weight_listed, parent_listed}
 use Rattle.marking.specs.inner.Queue.{Between, Leads, Spread, Expanded, Head}
 use Rattle.marking.specs.inner.Queue.Expanded.{had, got, left}
 use Rattle.marking.specs.inner.Engine.{Kind, weight_of, ByChange, ByRest, SpreadAs, Light, Next, Before, RoundLeft, Progress}
 use Rattle.marking.specs.inner.Parts.{Weighed}
 use Rattle.marking.proofs.Pushing.{room_left}
-use Rattle.marking.proofs.Levels.{listed-is, level-last, heads-last}
-use Rattle.marking.proofs.Turning.{Under, round-level, round-heads, head_moves}
-use Rattle.marking.proofs.Spreading.{spread-then, spread-as, spread-round, spread-kept}
+use Rattle.marking.proofs.Levels.{listed_is, level_last, heads_last}
+use Rattle.marking.proofs.Turning.{Under, round_level, round_heads, head_moves}
+use Rattle.marking.proofs.Spreading.{spread_then, spread_as, spread_round, spread_kept}
 use Rattle.marking.proofs.Heads.{room_full}
 
 -- each change that a run may make alters an input
@@ -39,12 +39,12 @@ pub record Alters (m : Machine) : Type 0 where
 
 module _ (m : Machine) where
   -- a change weighs as its kind does
-  kind-weight : (many : Bool) (v w : ℕ) → Kind many m.inputs v w → suc (multiple m v w * extra) ≡ weight_of many
-  kind-weight true v w k = rw (ne_eqb (differing m.inputs v w) 1 (λ e. omega arith)) refl
-  kind-weight false v w k = rw (eq-eqb (differing m.inputs v w) 1 k) refl
+  kind_weight : (many : Bool) (v w : ℕ) → Kind many m.inputs v w → suc (multiple m v w * extra) ≡ weight_of many
+  kind_weight true v w k = rw (ne_eqb (differing m.inputs v w) 1 (λ e. omega arith)) refl
+  kind_weight false v w k = rw (eq-eqb (differing m.inputs v w) 1 k) refl
 
-  weight-kind : (many : Bool) (v w : ℕ) → 0 < differing m.inputs v w → suc (multiple m v w * extra) ≡ weight_of many → Kind many m.inputs v w
-  weight-kind many v w l = ⊎_elim (single many) (several many) (equal_or (differing m.inputs v w) 1)
+  weight_kind : (many : Bool) (v w : ℕ) → 0 < differing m.inputs v w → suc (multiple m v w * extra) ≡ weight_of many → Kind many m.inputs v w
+  weight_kind many v w l = ⊎_elim (single many) (several many) (equal_or (differing m.inputs v w) 1)
     where
       single : (many : Bool) → differing m.inputs v w ≡ 1 → suc (multiple m v w * extra) ≡ weight_of many → Kind many m.inputs v w
       single true e f = absurd (omega (arith, rw (eq-eqb (differing m.inputs v w) 1 e) at f))
@@ -55,8 +55,8 @@ module _ (m : Machine) where
       several false e f = absurd (omega (arith, rw (ne_eqb (differing m.inputs v w) 1 e) at f))
 
   -- what the code expands are the changes of each weight
-  by-steps : (many : Bool) (p c : ℕ) → ByRest m (size m) many p c → Leads m (weight_of many) p c
-  by-steps many p c (e, (w, l, (k, (a, x)))) =
+  by_steps : (many : Bool) (p c : ℕ) → ByRest m (size m) many p c → Leads m (weight_of many) p c
+  by_steps many p c (e, (w, l, (k, (a, x)))) =
       let y : Steps m p c = record {
         state = p / size m;
         from = p % size m;
@@ -67,14 +67,14 @@ module _ (m : Machine) where
         change = record { below = l; allowed = a };
         visits = x;
       } in
-      (y, rw (stepped y) (kind-weight many (p % size m) w k))
+      (y, rw (stepped y) (kind_weight many (p % size m) w k))
 
-  steps-by : Alters m → (many : Bool) (p c : ℕ) → Leads m (weight_of many) p c → ByRest m (size m) many p c
-  steps-by alters many p c (x, f) =
+  steps_by_lem : Alters m → (many : Bool) (p c : ℕ) → Leads m (weight_of many) p c → ByRest m (size m) many p c
+  steps_by_lem alters many p c (x, f) =
       let a : x.state ≡ p / size m = sym (ap (λ (y : ℕ). y / size m) x.here ∙ high x.state m.inputs x.below) in
       let b : x.from ≡ p % size m = sym (ap (λ (y : ℕ). y % size m) x.here ∙ low x.state m.inputs x.below) in
       let free : m.may_change (p % size m) x.to ≡ true = subst (λ (v : ℕ). m.may_change v x.to ≡ true) b x.change.allowed in
-      let k : Kind many m.inputs (p % size m) x.to = weight-kind many (p % size m) x.to (alters.some _ _ free) (rw (stepped x) at f) in (
+      let k : Kind many m.inputs (p % size m) x.to = weight_kind many (p % size m) x.to (alters.some _ _ free) (rw (stepped x) at f) in (
         ap (λ (y : ℕ). get_or m.table y 0) x.here ∙ x.rests ∙ a,
         (x.to, x.change.below, (k, (free, subst (λ (y : ℕ). ByChange m.table (size m) y x.to c) a x.visits))),
       )
@@ -92,10 +92,10 @@ module _ {m : Machine} (ok : Sound m) (fits : couples m ≤ most_couples) {R P Q
 
   -- every weight in the queue can be added to
   light : (c : ℕ) → c < couples m → (get_or R c 0 ≡ unweighed → ⊥) → get_or R c 0 + suc extra ≤ unweighed
-  light c l f = omega (arith, lightest-small ok extra few (listed-is ok x.up_to R P x.level x.small c l f).0, mul-le-mul_right extra fits)
+  light c l f = omega (arith, lightest_small ok extra few (listed_is ok x.up_to R P x.level x.small c l f).0, mul-le-mul_right extra fits)
 
-  pub light-at : (j : ℕ) → j < e → Light R Q j
-  light-at j l = record {
+  pub light_at : (j : ℕ) → j < e → Light R Q j
+  light_at j l = record {
     long = omega (arith, room_full x.room, x.room.long);
     low = x.room.low j l;
     light = light (get_or Q j 0) (x.heads.low j l) (x.room.marked j l);
@@ -104,53 +104,53 @@ module _ {m : Machine} (ok : Sound m) (fits : couples m ≤ most_couples) {R P Q
   -- the second head is never before the first
   behind : b ≤ a
   behind = ⊎_elim
-      (λ (l : a < b). let h : a < e = omega (arith, x.b_in) in absurd (omega (arith, x.heads.multiple-had a l h, x.heads.single-left a (le_refl a) h)))
+      (λ (l : a < b). let h : a < e = omega (arith, x.b_in) in absurd (omega (arith, x.heads.multiple_had a l h, x.heads.single_left a (le_refl a) h)))
       (λ l. l)
       (below_or a b)
 
-  pub second-left : (several : Bool) → Before several a b e → b < e
-  second-left true l = l
-  second-left false l = omega (arith, behind)
+  pub second_left : (several : Bool) → Before several a b e → b < e
+  second_left true l = l
+  second_left false l = omega (arith, behind)
 
   -- no round is left
   complete : (several : Bool) → (several ≡ false → Single m) → (RoundLeft several a b e (length R) → ⊥) → Complete m extra unweighed R P
   complete several single none = ⊎_elim
-      (λ l. at-end several single (λ h. none (record { some = l; head = h })))
-      (λ l. level-last ok x.up_to R P x.level x.small (λ p c _ h _ _ u. omega (arith, room_left x.room c (rw x.total h) u)))
+      (λ l. at_end several single (λ h. none (record { some = l; head = h })))
+      (λ l. level_last ok x.up_to R P x.level x.small (λ p c _ h _ _ u. omega (arith, room_left x.room c (rw x.total h) u)))
       (below_or e (length R))
     where
-      at-end : (several : Bool) → (several ≡ false → Single m) → (Before several a b e → ⊥) → Complete m extra unweighed R P
-      at-end true single l = heads-last ok x.up_to R P x.level x.small x.heads (omega (arith, behind)) (λ _ _ _ _. omega arith)
-      at-end false single l = heads-last ok x.up_to R P x.level x.small x.heads (omega arith) (λ p c s f. absurd (single_step m (single refl) p c s f))
+      at_end : (several : Bool) → (several ≡ false → Single m) → (Before several a b e → ⊥) → Complete m extra unweighed R P
+      at_end true single l = heads_last ok x.up_to R P x.level x.small x.heads (omega (arith, behind)) (λ _ _ _ _. omega arith)
+      at_end false single l = heads_last ok x.up_to R P x.level x.small x.heads (omega arith) (λ p c s f. absurd (single_step m (single refl) p c s f))
 
-  pub progress-last : (several : Bool) → (several ≡ false → Single m) → (RoundLeft several a b e (length R) → ⊥) → Weighed m R P
-  progress-last several single none =
+  pub progress_last : (several : Bool) → (several ≡ false → Single m) → (RoundLeft several a b e (length R) → ⊥) → Weighed m R P
+  progress_last several single none =
       let all = complete several single none in
       record {
         exact = record { weights_are = x.total; parents_are = x.room.parents_long ∙ x.total };
-        weight = weight-listed ok fits R P all;
+        weight = weight_listed ok fits R P all;
         parent = λ c l. parent_listed ok fits R P all c l (x.orphan c (rw x.total l));
       }
 
   module _ {r : ℕ} (y : Next r R Q a b e) where
     higher : x.up_to < r
     higher = ⊎_elim
-        (λ (l, f). omega (arith, x.heads.single-left a (le_refl a) l))
-        (λ (l, f). omega (arith, x.heads.multiple-left b (le_refl b) l))
+        (λ (l, f). omega (arith, x.heads.single_left a (le_refl a) l))
+        (λ (l, f). omega (arith, x.heads.multiple_left b (le_refl b) l))
         y.is
 
     pub next_small : r < unweighed
     next_small = ⊎_elim
-        (λ (l, f). omega (arith, (light-at a l).light))
-        (λ (l, f). omega (arith, light-next (get_or Q b 0) (x.heads.low b l) (x.room.marked b l)))
+        (λ (l, f). omega (arith, (light_at a l).light))
+        (λ (l, f). omega (arith, light_next (get_or Q b 0) (x.heads.low b l) (x.room.marked b l)))
         y.is
       where
-        light-next : (c : ℕ) → c < couples m → (get_or R c 0 ≡ unweighed → ⊥) → get_or R c 0 + suc extra < unweighed
-        light-next c l f = omega (arith, lightest-small ok extra few (listed-is ok x.up_to R P x.level x.small c l f).0, mul-le-mul_right extra fits)
+        light_next : (c : ℕ) → c < couples m → (get_or R c 0 ≡ unweighed → ⊥) → get_or R c 0 + suc extra < unweighed
+        light_next c l f = omega (arith, lightest_small ok extra few (listed_is ok x.up_to R P x.level x.small c l f).0, mul-le-mul_right extra fits)
 
     unused : (c : ℕ) → c < length R → get_or R c 0 ≡ r → ⊥
     unused c l f =
-        let g = (listed-is ok x.up_to R P x.level x.small c (rw x.total at l) (λ q. omega (arith, next_small))).1 in
+        let g = (listed_is ok x.up_to R P x.level x.small c (rw x.total at l) (λ q. omega (arith, next_small))).1 in
         omega (arith, higher)
 
     module _ (alters : Alters m) {R₁ P₁ Q₁ R₂ P₂ Q₂ : List ℕ} {h g t₁ t₂ : ℕ}
@@ -160,7 +160,7 @@ module _ {m : Machine} (ok : Sound m) (fits : couples m ≤ most_couples) {R P Q
 
       -- the queue and its weights under the second head
       under : (j : ℕ) → j < e → get_or R₁ (get_or Q₁ j 0) 0 ≡ get_or R (get_or Q j 0) 0
-      under j l = spread-kept x.room first j l
+      under j l = spread_kept x.room first j l
 
       single : Head 1 r R Q a h e
       single = record { from = u.going.from; to = u.going.to; over = u.going.over; stop = u.stop; bound = y.one }
@@ -174,31 +174,31 @@ module _ {m : Machine} (ok : Sound m) (fits : couples m ≤ most_couples) {R P Q
         bound = y.many;
       }
 
-      whole-round : Spread (Under ok x.up_to r R P Q a h b g e) r R P Q e R₂ P₂ Q₂ t₂
-      whole-round = spread-as to of (spread-then next_small first v.going.spread)
+      whole_round : Spread (Under ok x.up_to r R P Q a h b g e) r R P Q e R₂ P₂ Q₂ t₂
+      whole_round = spread_as to of (spread_then next_small first v.going.spread)
         where
           to : (q c : ℕ) → (Between Q a h q × ByRest m (size m) false q c) ⊎ (Between Q₁ b g q × ByRest m (size m) true q c) → Under ok x.up_to r R P Q a h b g e q c
-          to q c (inl (j, k)) = inl (j, by-steps m false q c k)
-          to q c (inr ((j, l, o, w), k)) = inr ((j, l, o, sym (first.kept j (lt_of_lt_of_le o v.going.to)) ∙ w), by-steps m true q c k)
+          to q c (inl (j, k)) = inl (j, by_steps m false q c k)
+          to q c (inr ((j, l, o, w), k)) = inr ((j, l, o, sym (first.kept j (lt_of_lt_of_le o v.going.to)) ∙ w), by_steps m true q c k)
 
           of : (q c : ℕ) → Under ok x.up_to r R P Q a h b g e q c → (Between Q a h q × ByRest m (size m) false q c) ⊎ (Between Q₁ b g q × ByRest m (size m) true q c)
-          of q c (inl (j, k)) = inl (j, steps-by m alters false q c k)
-          of q c (inr ((j, l, o, w), k)) = inr ((j, l, o, first.kept j (lt_of_lt_of_le o v.going.to) ∙ w), steps-by m alters true q c k)
+          of q c (inl (j, k)) = inl (j, steps_by_lem m alters false q c k)
+          of q c (inr ((j, l, o, w), k)) = inr ((j, l, o, first.kept j (lt_of_lt_of_le o v.going.to) ∙ w), steps_by_lem m alters true q c k)
 
       -- the next round begins
-      pub progress-next : Progress m R₂ P₂ Q₂ h g t₂
-      progress-next =
-          let z = spread-round unused whole-round in
+      pub progress_next : Progress m R₂ P₂ Q₂ h g t₂
+      progress_next =
+          let z = spread_round unused whole_round in
           record {
             up_to = r;
             small = next_small;
-            level = round-level ok x.up_to r R P Q a h b g e x.level x.small x.heads single many higher next_small x.total z;
-            heads = round-heads ok x.up_to r R P Q a h b g e x.level x.small x.heads single many higher next_small x.total z;
-            room = whole-round.room;
-            total = whole-round.same_length ∙ x.total;
-            a_in = omega (arith, u.going.to, whole-round.more);
-            b_in = omega (arith, v.going.to, whole-round.more);
-            orphan = λ c l. orphan c (rw whole-round.same_length at l) (z.expanded c (rw whole-round.same_length at l));
+            level = round_level ok x.up_to r R P Q a h b g e x.level x.small x.heads single many higher next_small x.total z;
+            heads = round_heads ok x.up_to r R P Q a h b g e x.level x.small x.heads single many higher next_small x.total z;
+            room = whole_round.room;
+            total = whole_round.same_length ∙ x.total;
+            a_in = omega (arith, u.going.to, whole_round.more);
+            b_in = omega (arith, v.going.to, whole_round.more);
+            orphan = λ c l. orphan c (rw whole_round.same_length at l) (z.expanded c (rw whole_round.same_length at l));
           }
         where
           orphan : (c : ℕ) → c < length R → Expanded (Under ok x.up_to r R P Q a h b g e) r R P R₂ P₂ c → (get_or R₂ c 0 ≡ 0) ⊎ (get_or R₂ c 0 ≡ unweighed) → get_or P₂ c 0 ≡ 0
@@ -207,8 +207,8 @@ module _ {m : Machine} (ok : Sound m) (fits : couples m ≤ most_couples) {R P Q
           orphan c l (left i k n o) w = o ∙ x.orphan c l (inr i)
 
       -- one of the heads has moved
-      pub progress-moves : a + b < h + g
-      progress-moves = ⊎_elim
+      pub progress_moves : a + b < h + g
+      progress_moves = ⊎_elim
           (λ (l, f). omega (arith, head_moves single l f, v.going.from))
           (λ (l, f). omega (arith, head_moves many l f, u.going.from))
           y.is

@@ -19,27 +19,27 @@ use Rattle.marking.specs.inner.Queue.Offer.{given, lower, same}
 use mathlib.Core.Bool.{cond}
 
 module _ {r p : ℕ} {R P : List ℕ} where
-  offer-none : {A : ℕ → Type 0} {c : ℕ} → (A c → ⊥) → Offer A r p R P R P c
-  offer-none n = same (λ a. absurd (n a)) (λ a. absurd (n a)) refl refl
+  offer_none : {A : ℕ → Type 0} {c : ℕ} → (A c → ⊥) → Offer A r p R P R P c
+  offer_none n = same (λ a. absurd (n a)) (λ a. absurd (n a)) refl refl
 
-  offer-then : {A B : ℕ → Type 0} {R₁ P₁ R₂ P₂ : List ℕ} {c : ℕ} → r < unweighed
+  offer_then : {A B : ℕ → Type 0} {R₁ P₁ R₂ P₂ : List ℕ} {c : ℕ} → r < unweighed
       → Offer A r p R P R₁ P₁ c → Offer B r p R₁ P₁ R₂ P₂ c → Offer (λ d. A d ⊎ B d) r p R P R₂ P₂ c
-  offer-then h (given a e f g) (given b i j k) = absurd (omega arith)
-  offer-then h (given a e f g) (lower b i l j k) = absurd (omega arith)
-  offer-then h (given a e f g) (same n o j k) = given (inl a) e (j ∙ f) (k ∙ g)
-  offer-then h (lower a e l f g) (given b i j k) = absurd (omega arith)
-  offer-then h (lower a e l f g) (lower b i o j k) = absurd (omega arith)
-  offer-then h (lower a e l f g) (same n o j k) = lower (inl a) e l (j ∙ f) (k ∙ g)
-  offer-then h (same n o f g) (given b i j k) = given (inr b) (sym f ∙ i) j k
-  offer-then h (same n o f g) (lower b i l j k) = lower (inr b) (sym f ∙ i) (omega arith) j k
-  offer-then h (same n o f g) (same u v j k) = same
+  offer_then h (given a e f g) (given b i j k) = absurd (omega arith)
+  offer_then h (given a e f g) (lower b i l j k) = absurd (omega arith)
+  offer_then h (given a e f g) (same n o j k) = given (inl a) e (j ∙ f) (k ∙ g)
+  offer_then h (lower a e l f g) (given b i j k) = absurd (omega arith)
+  offer_then h (lower a e l f g) (lower b i o j k) = absurd (omega arith)
+  offer_then h (lower a e l f g) (same n o j k) = lower (inl a) e l (j ∙ f) (k ∙ g)
+  offer_then h (same n o f g) (given b i j k) = given (inr b) (sym f ∙ i) j k
+  offer_then h (same n o f g) (lower b i l j k) = lower (inr b) (sym f ∙ i) (omega arith) j k
+  offer_then h (same n o f g) (same u v j k) = same
       (λ d e. ⊎_elim (λ a. n a e) (λ b. u b (f ∙ e)) d)
       (λ d e. ⊎_elim (λ a. o a e) (λ b. omega (arith, v b (f ∙ e))) d) (j ∙ f) (k ∙ g)
 
-  offer-as : {A B : ℕ → Type 0} {R₁ P₁ : List ℕ} {c : ℕ} → (A c → B c) → (B c → A c) → Offer A r p R P R₁ P₁ c → Offer B r p R P R₁ P₁ c
-  offer-as to of (given a e f g) = given (to a) e f g
-  offer-as to of (lower a e l f g) = lower (to a) e l f g
-  offer-as to of (same n o f g) = same (λ b e. n (of b) e) (λ b e. o (of b) e) f g
+  offer_as : {A B : ℕ → Type 0} {R₁ P₁ : List ℕ} {c : ℕ} → (A c → B c) → (B c → A c) → Offer A r p R P R₁ P₁ c → Offer B r p R P R₁ P₁ c
+  offer_as to of (given a e f g) = given (to a) e f g
+  offer_as to of (lower a e l f g) = lower (to a) e l f g
+  offer_as to of (same n o f g) = same (λ b e. n (of b) e) (λ b e. o (of b) e) f g
 
 -- there is room for a couple without a weight
 pub room_left : {R P Q : List ℕ} {tail : ℕ} → Room R P Q tail → (c : ℕ) → c < length R → get_or R c 0 ≡ unweighed → tail < length R
@@ -72,11 +72,11 @@ room_free x c l e = (omega (arith, room_left x c l e, x.long), omega (arith, roo
 
 module _ {r p : ℕ} {R P Q : List ℕ} {tail : ℕ} where
   pub pushed_none : {A : ℕ → Type 0} → Room R P Q tail → ((c : ℕ) → A c → ⊥) → Pushed A r p R P Q tail R P Q tail
-  pushed_none x n = record { room = x; same_length = refl; fresh = λ a f. f; more = le_refl _; kept = λ i l. refl; offer = λ c. offer-none (n c) }
+  pushed_none x n = record { room = x; same_length = refl; fresh = λ a f. f; more = le_refl _; kept = λ i l. refl; offer = λ c. offer_none (n c) }
 
-  pub pushed-as : {A B : ℕ → Type 0} {R₁ P₁ Q₁ : List ℕ} {t₁ : ℕ} → ((c : ℕ) → A c → B c) → ((c : ℕ) → B c → A c)
+  pub pushed_as : {A B : ℕ → Type 0} {R₁ P₁ Q₁ : List ℕ} {t₁ : ℕ} → ((c : ℕ) → A c → B c) → ((c : ℕ) → B c → A c)
       → Pushed A r p R P Q tail R₁ P₁ Q₁ t₁ → Pushed B r p R P Q tail R₁ P₁ Q₁ t₁
-  pushed-as to of x = record { room = x.room; same_length = x.same_length; fresh = x.fresh; more = x.more; kept = x.kept; offer = λ c. offer-as (to c) (of c) (x.offer c) }
+  pushed_as to of x = record { room = x.room; same_length = x.same_length; fresh = x.fresh; more = x.more; kept = x.kept; offer = λ c. offer_as (to c) (of c) (x.offer c) }
 
   pub pushed_then : {A B : ℕ → Type 0} {R₁ P₁ Q₁ R₂ P₂ Q₂ : List ℕ} {t₁ t₂ : ℕ} → r < unweighed
       → Pushed A r p R P Q tail R₁ P₁ Q₁ t₁ → Pushed B r p R₁ P₁ Q₁ t₁ R₂ P₂ Q₂ t₂ → Pushed (λ d. A d ⊎ B d) r p R P Q tail R₂ P₂ Q₂ t₂
@@ -86,7 +86,7 @@ module _ {r p : ℕ} {R P Q : List ℕ} {tail : ℕ} where
     fresh = λ a f. y.fresh a (x.fresh a f);
     more = omega (arith, x.more, y.more);
     kept = λ i l. y.kept i (lt_of_lt_of_le l x.more) ∙ x.kept i l;
-    offer = λ c. offer-then h (x.offer c) (y.offer c);
+    offer = λ c. offer_then h (x.offer c) (y.offer c);
   }
 
   -- a couple that has a weight, which it keeps with its parent
@@ -100,15 +100,15 @@ module _ {r p : ℕ} {R P Q : List ℕ} {tail : ℕ} where
     offer = λ d. same (λ q e. n (ap (λ (y : ℕ). get_or R y 0) (sym q) ∙ e)) (λ q e. rw q (o (ap (λ (y : ℕ). get_or R y 0) (sym q) ∙ e))) refl refl;
   }
 
-  pub push-least : (c : ℕ) → Room R P Q tail → (get_or R c 0 ≡ unweighed → ⊥) → get_or P c 0 ≤ p → Pushed (λ d. d ≡ c) r p R P Q tail R P Q tail
-  push-least c x n o = same_at c x n (λ _. o)
+  pub push_least : (c : ℕ) → Room R P Q tail → (get_or R c 0 ≡ unweighed → ⊥) → get_or P c 0 ≤ p → Pushed (λ d. d ≡ c) r p R P Q tail R P Q tail
+  push_least c x n o = same_at c x n (λ _. o)
 
-  pub push-other : (c : ℕ) → Room R P Q tail → (get_or R c 0 ≡ unweighed → ⊥) → (get_or R c 0 ≡ r → ⊥) → Pushed (λ d. d ≡ c) r p R P Q tail R P Q tail
-  push-other c x n o = same_at c x n (λ e. absurd (o e))
+  pub push_other : (c : ℕ) → Room R P Q tail → (get_or R c 0 ≡ unweighed → ⊥) → (get_or R c 0 ≡ r → ⊥) → Pushed (λ d. d ≡ c) r p R P Q tail R P Q tail
+  push_other c x n o = same_at c x n (λ e. absurd (o e))
 
   -- a couple of weight r with a higher parent
-  pub push-lower : (c : ℕ) → Room R P Q tail → c < length R → get_or R c 0 ≡ r → p < get_or P c 0 → Pushed (λ d. d ≡ c) r p R P Q tail R (set P c p) Q tail
-  push-lower c x l e f = record {
+  pub push_lower : (c : ℕ) → Room R P Q tail → c < length R → get_or R c 0 ≡ r → p < get_or P c 0 → Pushed (λ d. d ≡ c) r p R P Q tail R (set P c p) Q tail
+  push_lower c x l e f = record {
     room = record { parents_long = rw length-set x.parents_long; long = x.long; few = x.few; low = x.low; once = x.once; marked = x.marked };
     same_length = refl;
     fresh = λ a g. g;
@@ -121,9 +121,9 @@ module _ {r p : ℕ} {R P Q : List ℕ} {tail : ℕ} where
   }
 
   -- a couple without a weight
-  pub push-given : (c : ℕ) → Room R P Q tail → c < length R → r < unweighed → get_or R c 0 ≡ unweighed
+  pub push_given : (c : ℕ) → Room R P Q tail → c < length R → r < unweighed → get_or R c 0 ≡ unweighed
       → Pushed (λ d. d ≡ c) r p R P Q tail (set R c r) (set P c p) (set Q tail c) (tail + 1)
-  push-given c x l k e = record {
+  push_given c x l k e = record {
     room = record {
       parents_long = rw (length-set, length-set) x.parents_long;
       long = rw (length-set, length-set) x.long;

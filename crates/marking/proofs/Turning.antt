@@ -17,7 +17,7 @@ use Rattle.marking.specs.inner.Levels.{Source, Turned, Level, Started, Heads}
 use Rattle.marking.specs.inner.Levels.Turned.{kept, found, left as without}
 use Rattle.marking.specs.inner.Queue.{Fresh, Between, Leads, Room, Expanded, Spreads, Head}
 use Rattle.marking.specs.inner.Queue.Expanded.{had, got, left}
-use Rattle.marking.proofs.Levels.{listed-is, level-start, level-next, heads-next}
+use Rattle.marking.proofs.Levels.{listed_is, level_start, level_next, heads_next}
 
 module _ {m : Machine} (ok : Sound m) (k r : ℕ) (R P Q : List ℕ) (a h b g e : ℕ) where
   -- the couples under the two heads
@@ -39,54 +39,54 @@ module _ {m : Machine} (ok : Sound m) (k r : ℕ) (R P Q : List ℕ) (a h b g e 
         go true = inl (omega arith)
         go false = inr (omega arith)
 
-    weighs-less : (c : ℕ) → c < couples m → (get_or R c 0 ≡ unweighed → ⊥) → get_or R c 0 ≤ k
-    weighs-less c l n = (listed-is ok k R P level small c l n).1
+    weighs_less : (c : ℕ) → c < couples m → (get_or R c 0 ≡ unweighed → ⊥) → get_or R c 0 ≤ k
+    weighs_less c l n = (listed_is ok k R P level small c l n).1
 
-    under-source : (q c : ℕ) → Under q c → Source m R r c q
-    under-source q c (inl ((j, u, v, w), (s, f))) = record {
+    under_source : (q c : ℕ) → Under q c → Source m R r c q
+    under_source q c (inl ((j, u, v, w), (s, f))) = record {
       below = subst (λ (x : ℕ). x < couples m) w (heads.low j (omega (arith, single.to)));
       steps = s;
       sum = rw (← w) (ap (λ (x : ℕ). get_or R (get_or Q j 0) 0 + x) (subst (λ (x : ℕ). step m extra x c ≡ 1) (sym w) f) ∙ single.over j u v);
     }
-    under-source q c (inr ((j, u, v, w), (s, f))) = record {
+    under_source q c (inr ((j, u, v, w), (s, f))) = record {
       below = subst (λ (x : ℕ). x < couples m) w (heads.low j (omega (arith, many.to)));
       steps = s;
       sum = rw (← w) (ap (λ (x : ℕ). get_or R (get_or Q j 0) 0 + x) (subst (λ (x : ℕ). step m extra x c ≡ suc extra) (sym w) f) ∙ many.over j u v);
     }
 
-    source-under : (q c : ℕ) → Source m R r c q → Under q c
-    source-under q c s =
+    source_under : (q c : ℕ) → Source m R r c q → Under q c
+    source_under q c s =
         let n : get_or R q 0 ≡ unweighed → ⊥ = λ f. omega (arith, s.sum) in
         let (i, l, w) = heads.all q s.below n in
         let at : get_or R (get_or Q i 0) 0 ≡ get_or R q 0 = ap (λ (x : ℕ). get_or R x 0) w in
         ⊎_elim
         (λ f. inl ((i, first i l (omega (arith, s.sum)), before i l (omega (arith, s.sum)), w), (s.steps, f)))
-        (λ f. inr ((i, first-many i l (omega (arith, s.sum)), before-many i l (omega (arith, s.sum)), w), (s.steps, f)))
+        (λ f. inr ((i, first_many i l (omega (arith, s.sum)), before_many i l (omega (arith, s.sum)), w), (s.steps, f)))
         (either q c)
       where
         first : (i : ℕ) → i < e → get_or R (get_or Q i 0) 0 + 1 ≡ r → a ≤ i
-        first i l f = ⊎_elim (λ u. absurd (omega (arith, heads.single-had i u l))) (λ u. u) (below_or i a)
+        first i l f = ⊎_elim (λ u. absurd (omega (arith, heads.single_had i u l))) (λ u. u) (below_or i a)
 
         before : (i : ℕ) → i < e → get_or R (get_or Q i 0) 0 + 1 ≡ r → i < h
         before i l f = ⊎_elim (λ u. u) (λ u. absurd (omega (arith, past single i u l))) (below_or i h)
 
-        first-many : (i : ℕ) → i < e → get_or R (get_or Q i 0) 0 + suc extra ≡ r → b ≤ i
-        first-many i l f = ⊎_elim (λ u. absurd (omega (arith, heads.multiple-had i u l))) (λ u. u) (below_or i b)
+        first_many : (i : ℕ) → i < e → get_or R (get_or Q i 0) 0 + suc extra ≡ r → b ≤ i
+        first_many i l f = ⊎_elim (λ u. absurd (omega (arith, heads.multiple_had i u l))) (λ u. u) (below_or i b)
 
-        before-many : (i : ℕ) → i < e → get_or R (get_or Q i 0) 0 + suc extra ≡ r → i < g
-        before-many i l f = ⊎_elim (λ u. u) (λ u. absurd (omega (arith, past many i u l))) (below_or i g)
+        before_many : (i : ℕ) → i < e → get_or R (get_or Q i 0) 0 + suc extra ≡ r → i < g
+        before_many i l f = ⊎_elim (λ u. u) (λ u. absurd (omega (arith, past many i u l))) (below_or i g)
 
     module _ {R' P' Q' : List ℕ} {tail : ℕ} (total : length R ≡ couples m) (spread : Spreads Under r e R P Q R' P' Q' tail) where
-      at-round : (c : ℕ) → Expanded Under r R P R' P' c → Turned m r R P R' P' c
-      at-round c (had ne i j) = kept ne i j
-      at-round c (got f u l i) = found f (under-source _ c u) (λ q s. l q (source-under q c s)) i
-      at-round c (left f never i j) = without f (λ q s. never q (source-under q c s)) i
+      at_round : (c : ℕ) → Expanded Under r R P R' P' c → Turned m r R P R' P' c
+      at_round c (had ne i j) = kept ne i j
+      at_round c (got f u l i) = found f (under_source _ c u) (λ q s. l q (source_under q c s)) i
+      at_round c (left f never i j) = without f (λ q s. never q (source_under q c s)) i
 
       -- the round gives all weights up to r
-      pub round-level : Level m r R' P'
-      round-level = level-next ok k R P level small r
-          (heads-next ok k R P level small heads r (λ l. omega (arith, single.bound l)) (λ l. omega (arith, many.bound l)))
-          next fits R' P' (λ c l. at-round c (spread.expanded c (rw total l)))
+      pub round_level : Level m r R' P'
+      round_level = level_next ok k R P level small r
+          (heads_next ok k R P level small heads r (λ l. omega (arith, single.bound l)) (λ l. omega (arith, many.bound l)))
+          next fits R' P' (λ c l. at_round c (spread.expanded c (rw total l)))
 
       -- what had a weight keeps it, what got one has r
       old : (i : ℕ) → i < e → (get_or Q' i 0 ≡ get_or Q i 0) × (get_or R' (get_or Q' i 0) 0 ≡ get_or R (get_or Q i 0) 0)
@@ -103,18 +103,18 @@ module _ {m : Machine} (ok : Sound m) (k r : ℕ) (R P Q : List ℕ) (a h b g e 
       new = spread.fresh.new
 
       -- the heads stand where the next round wants them
-      pub round-heads : Heads m r R' Q' h g tail
-      round-heads = record {
+      pub round_heads : Heads m r R' Q' h g tail
+      round_heads = record {
         low = λ i l. subst (λ (x : ℕ). get_or Q' i 0 < x) (spread.same_length ∙ total) (spread.room.low i l);
         all = λ c l n. all c l n (spread.expanded c (rw total l));
         marked = spread.room.marked;
         sorted = sorted;
-        single-had = λ i l o. let o' : i < e = omega (arith, single.to) in
-            ⊎_elim (λ u. omega (arith, (old i o').1, heads.single-had i u o')) (λ u. omega (arith, (old i o').1, single.over i u l)) (below_or i a);
-        single-left = λ i l o. ⊎_elim (λ u. omega (arith, (old i u).1, past single i l u)) (λ u. omega (arith, new i u o)) (below_or i e);
-        multiple-had = λ i l o. let o' : i < e = omega (arith, many.to) in
-            ⊎_elim (λ u. omega (arith, (old i o').1, heads.multiple-had i u o')) (λ u. omega (arith, (old i o').1, many.over i u l)) (below_or i b);
-        multiple-left = λ i l o. ⊎_elim (λ u. omega (arith, (old i u).1, past many i l u)) (λ u. omega (arith, new i u o)) (below_or i e);
+        single_had = λ i l o. let o' : i < e = omega (arith, single.to) in
+            ⊎_elim (λ u. omega (arith, (old i o').1, heads.single_had i u o')) (λ u. omega (arith, (old i o').1, single.over i u l)) (below_or i a);
+        single_left = λ i l o. ⊎_elim (λ u. omega (arith, (old i u).1, past single i l u)) (λ u. omega (arith, new i u o)) (below_or i e);
+        multiple_had = λ i l o. let o' : i < e = omega (arith, many.to) in
+            ⊎_elim (λ u. omega (arith, (old i o').1, heads.multiple_had i u o')) (λ u. omega (arith, (old i o').1, many.over i u l)) (below_or i b);
+        multiple_left = λ i l o. ⊎_elim (λ u. omega (arith, (old i u).1, past many i l u)) (λ u. omega (arith, new i u o)) (below_or i e);
       }
         where
           all : (c : ℕ) → c < couples m → (get_or R' c 0 ≡ unweighed → ⊥) → Expanded Under r R P R' P' c → (i : ℕ) × (i < tail) × (get_or Q' i 0 ≡ c)
@@ -123,7 +123,7 @@ module _ {m : Machine} (ok : Sound m) (k r : ℕ) (R P Q : List ℕ) (a h b g e 
           all c l n (left f never i j) = absurd (n i)
 
           light : (i : ℕ) → i < e → get_or R (get_or Q i 0) 0 ≤ k
-          light i l = weighs-less (get_or Q i 0) (heads.low i l) (heads.marked i l)
+          light i l = weighs_less (get_or Q i 0) (heads.low i l) (heads.marked i l)
 
           sorted : (i j : ℕ) → i ≤ j → j < tail → get_or R' (get_or Q' i 0) 0 ≤ get_or R' (get_or Q' j 0) 0
           sorted i j l o = ⊎_elim
@@ -140,10 +140,10 @@ head_moves {d} {r} {R} {Q} {a} {h} {e} x l f = ⊎_elim
 
 module _ {m : Machine} (ok : Sound m) where
   -- the starts in the queue
-  pub start-heads : {R P Q : List ℕ} {tail : ℕ} → length R ≡ couples m → Started m R → Room R P Q tail → Fresh 0 0 R Q tail
+  pub start_heads : {R P Q : List ℕ} {tail : ℕ} → length R ≡ couples m → Started m R → Room R P Q tail → Fresh 0 0 R Q tail
       → Level m 0 R P × Heads m 0 R Q 0 0 tail
-  start-heads {R} {P} {Q} {tail} total started room fresh = (
-    level-start ok R P started,
+  start_heads {R} {P} {Q} {tail} total started room fresh = (
+    level_start ok R P started,
     record {
       low = λ i l. subst (λ (x : ℕ). get_or Q i 0 < x) total (room.low i l);
       all = λ c l n. ⊎_elim
@@ -152,9 +152,9 @@ module _ {m : Machine} (ok : Sound m) where
           (started c l);
       marked = room.marked;
       sorted = λ i j l h. omega (arith, fresh.new i zero-le (omega arith), fresh.new j zero-le h);
-      single-had = λ i l h. absurd (omega arith);
-      single-left = λ i l h. zero-le;
-      multiple-had = λ i l h. absurd (omega arith);
-      multiple-left = λ i l h. zero-le;
+      single_had = λ i l h. absurd (omega arith);
+      single_left = λ i l h. zero-le;
+      multiple_had = λ i l h. absurd (omega arith);
+      multiple_left = λ i l h. zero-le;
     },
   )

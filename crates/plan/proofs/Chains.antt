@@ -22,24 +22,24 @@ followed_front size parent zero c vs ws = refl
 followed_front size parent (suc k) c vs ws = followed_front size parent k (parent c) (c % size ∷ vs) ws
 
 module _ (P : List ℕ) (z : ℕ) where
-  pub settings-none : (c : ℕ) → settings P z c 0 ≡ []
+  pub settings_none : (c : ℕ) → settings P z c 0 ≡ []
   unfolding settings
-  settings-none c = refl
+  settings_none c = refl
 
   -- one couple more, at the end
-  pub settings-more : (c n : ℕ) → settings P z c (suc n) ≡ settings P z (get_or P c 0) n ++ (c % z ∷ [])
+  pub settings_more : (c n : ℕ) → settings P z c (suc n) ≡ settings P z (get_or P c 0) n ++ (c % z ∷ [])
   unfolding settings
-  settings-more c n = followed_front z (λ d. get_or P d 0) n (get_or P c 0) [] (c % z ∷ [])
+  settings_more c n = followed_front z (λ d. get_or P d 0) n (get_or P c 0) [] (c % z ∷ [])
 
-  pub length-settings : (n c : ℕ) → length (settings P z c n) ≡ n
-  length-settings zero c = rw (settings-none c) refl
-  length-settings (suc n) c = rw (settings-more c n, length-append, length-settings n (get_or P c 0)) (add-one n)
+  pub length_settings : (n c : ℕ) → length (settings P z c n) ≡ n
+  length_settings zero c = rw (settings_none c) refl
+  length_settings (suc n) c = rw (settings_more c n, length-append, length_settings n (get_or P c 0)) (add-one n)
 
   -- one setting written, one fewer is left
-  pub settings-back : (c m n : ℕ) (l : List ℕ) → n ≡ m + 1 → m < length l
+  pub settings_back : (c m n : ℕ) (l : List ℕ) → n ≡ m + 1 → m < length l
       → settings P z (get_or P c 0) m ++ drop m (set l m (c % z)) ≡ settings P z c n ++ drop n l
-  settings-back c m n l e h =
-      rw (e, add-one m, settings-more, append_assoc) (ap (λ (t : List ℕ). settings P z (get_or P c 0) m ++ t) (drop_set_here l m (c % z) h))
+  settings_back c m n l e h =
+      rw (e, add-one m, settings_more, append_assoc) (ap (λ (t : List ℕ). settings P z (get_or P c 0) m ++ t) (drop_set_here l m (c % z) h))
 
 pub parent_in_tree : {P : List ℕ} {z c : ℕ} (w : InTree P z c) → InTree P z (get_or P c 0)
 parent_in_tree {P} {z} {c} w = record { total = w.total; tree = w.tree; below = w.tree.parent c w.below }
@@ -49,12 +49,12 @@ setting_small {P} {z} w d = omega (arith, mod-lt d w.tree.some, w.tree.small)
 
 -- the stored run to a couple, of r changes
 module _ (P : List ℕ) (z c r : ℕ) where
-  pub length-stored : length (stored_run (settings P z c (r + 1))) ≡ r + 3
-  length-stored = rw (length-settings P z (r + 1) c) (omega arith)
+  pub length_stored : length (stored_run (settings P z c (r + 1))) ≡ r + 3
+  length_stored = rw (length_settings P z (r + 1) c) (omega arith)
 
   -- its count bytes
-  pub count-bytes : stored_run (settings P z c (r + 1)) ≡ ((r + 1) % 256 ∷ (r + 1) / 256 ∷ []) ++ settings P z c (r + 1)
-  count-bytes = rw (length-settings P z (r + 1) c) refl
+  pub count_bytes : stored_run (settings P z c (r + 1)) ≡ ((r + 1) % 256 ∷ (r + 1) / 256 ∷ []) ++ settings P z c (r + 1)
+  count_bytes = rw (length_settings P z (r + 1) c) refl
 
 -- what the list stores of it, and the plan
 pub list_stores : (P : List ℕ) (z c w : ℕ)
@@ -68,21 +68,21 @@ plan_stores P z c w = refl
 
 pub length_by : (several : Bool) (P : List ℕ) (z c w : ℕ) → length (stored_by several P z c w) ≡ w % extra + cond several 5 3
 unfolding stored_by
-length_by true P z c w = omega (arith, length-stored P z c (w % extra))
-length_by false P z c w = length-stored P z c (w % extra)
+length_by true P z c w = omega (arith, length_stored P z c (w % extra))
+length_by false P z c w = length_stored P z c (w % extra)
 
 pub length_when : (P : List ℕ) (z c w : ℕ) {several b : Bool} → several ≡ b → length (stored_by several P z c w) ≡ w % extra + cond b 5 3
 length_when P z c w {several} e = length_by several P z c w ∙ ap (λ (d : Bool). w % extra + cond d 5 3) e
 
 -- the stored runs of chosen couples
 module _ (several : Bool) (P W : List ℕ) (z : ℕ) (C : List Bool) where
-  pub piece-chosen : (c : ℕ) → get_or C c false ≡ true → piece several P W z C c ≡ stored_by several P z c (get_or W c 0)
+  pub piece_chosen : (c : ℕ) → get_or C c false ≡ true → piece several P W z C c ≡ stored_by several P z c (get_or W c 0)
   unfolding piece
-  piece-chosen c e = rw e refl
+  piece_chosen c e = rw e refl
 
-  pub piece-left : (c : ℕ) → get_or C c false ≡ false → piece several P W z C c ≡ []
+  pub piece_left : (c : ℕ) → get_or C c false ≡ false → piece several P W z C c ≡ []
   unfolding piece
-  piece-left c e = rw e refl
+  piece_left c e = rw e refl
 
   pub pieces_none : pieces several P W z C 0 ≡ []
   unfolding pieces
@@ -93,11 +93,11 @@ module _ (several : Bool) (P W : List ℕ) (z : ℕ) (C : List Bool) where
   pieces_more c = rw (add-one c)
 
   -- those of the first c couples and of the next are no longer than all
-  pub pieces-fit : (t c : ℕ) → c < t → length (pieces several P W z C c) + length (piece several P W z C c) ≤ length (pieces several P W z C t)
+  pub pieces_fit : (t c : ℕ) → c < t → length (pieces several P W z C c) + length (piece several P W z C c) ≤ length (pieces several P W z C t)
   unfolding pieces
-  pieces-fit zero c h = absurd (omega arith)
-  pieces-fit (suc t) c h =
+  pieces_fit zero c h = absurd (omega arith)
+  pieces_fit (suc t) c h =
       rw length-append (⊎_elim
       (λ (e : c ≡ t). rw e (omega arith))
-      (λ (l : c < t). omega (arith, pieces-fit t c l))
+      (λ (l : c < t). omega (arith, pieces_fit t c l))
       (eq-or-lt_of_le (omega arith)))

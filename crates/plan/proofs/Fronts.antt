@@ -38,11 +38,11 @@ put_front {w} {n} {a} {b} p = record { is = subst (λ (k : ℕ). b ≡ w ++ drop
 
 -- what is written, or would be, has n elements
 module _ {w a : List ℕ} {n : ℕ} (e : n ≡ length w) where
-  pub ends-short : length a < n → Ends w a (record { number = 16; place = n }) a
-  ends-short l = rw e (Ends.short (rw (← e) l))
+  pub ends_short : length a < n → Ends w a (record { number = 16; place = n }) a
+  ends_short l = rw e (Ends.short (rw (← e) l))
 
-  pub ends-front : {b : List ℕ} → n ≤ length a → Front w a b → Ends w a (record { number = 0; place = n }) b
-  ends-front l f = rw e (Ends.fits (rw (← e) l) f)
+  pub ends_front : {b : List ℕ} → n ≤ length a → Front w a b → Ends w a (record { number = 0; place = n }) b
+  ends_front l f = rw e (Ends.fits (rw (← e) l) f)
 
 -- nothing is written yet
 pub put_none : {a : List ℕ} → Put [] 0 a a

@@ -20,9 +20,9 @@ use Rattle.machine.proofs.Sizes.{couples_few}
 use Rattle.tables.specs.inner.Fits.{Checked}
 use Rattle.several.specs.Several.{singly}
 use Rattle.several.specs.Weights.{extra, unweighed}
-use Rattle.several.proofs.Listed.{listed-short, parent-below}
+use Rattle.several.proofs.Listed.{listed_short, parent_below}
 use Rattle.marking.specs.Marking.{mark_checks, ParentedAs}
-use Rattle.marking.proofs.Checks.{mark-checked, without_parents}
+use Rattle.marking.proofs.Checks.{mark_checked, without_parents}
 use Rattle.plan.specs.inner.Writing.{Tree}
 use Rattle.plan.specs.inner.Choosing.{Room}
 use Rattle.plan.proofs.Visits.{Told}
@@ -43,7 +43,7 @@ pub ready : {m : Machine} {ranks₀ weights₀ parents₀ ranks₁ weights₁ pa
     → {z : ℕ} → (m.inputs ≤ most_inputs → z ≡ size m) → Ready m ranks₀ ranks₁ weights₁ parents₁ a × (z ≡ size m)
 ready {m} p weighs lent e f =
     let v = without_parents weighs lent p in
-    let k = mark-checked m [] (judged_passes 13 v refl e) in
+    let k = mark_checked m [] (judged_passes 13 v refl e) in
     let few = couples_few k.tabled.sized in
     let w = p.weights.filled (inl e) in
     let s = p.parents.filled (inl e) in (
@@ -61,12 +61,12 @@ ready {m} p weighs lent e f =
 
 -- what the writers ask for
 module _ {m : Machine} {ranks₀ R W P : List ℕ} {a : Answer} (y : Ready m ranks₀ R W P a) where
-  pub few-couples : couples m ≤ most_couples
-  few-couples = y.told.few
+  pub few_couples : couples m ≤ most_couples
+  few_couples = y.told.few
 
   -- runs are short enough to be stored
   pub run_short_lem : (c : ℕ) → c < couples m → (get_or W c 0 ≡ unweighed → ⊥) → get_or W c 0 % extra < unmarked
-  run_short_lem c h n = let x = y.told in omega (arith, listed-short x.sound x.few W P x.weight x.parent c h n, few-couples)
+  run_short_lem c h n = let x = y.told in omega (arith, listed_short x.sound x.few W P x.weight x.parent c h n, few_couples)
 
   pub tree : Tree P (size m) (couples m)
   tree =
@@ -75,14 +75,14 @@ module _ {m : Machine} {ranks₀ R W P : List ℕ} {a : Answer} (y : Ready m ran
         some = pow_pos m.inputs;
         small = settings_bound y.checked.tabled.sized.few_inputs;
         long = y.parents_long;
-        parent = λ c h. parent-below x.sound x.few h (x.weight c h) (x.parent c h);
+        parent = λ c h. parent_below x.sound x.few h (x.weight c h) (x.parent c h);
       }
 
   pub room : Room m.table P (size m) most_couples (couples m)
   room = record {
     tree = tree;
     table_long = y.checked.tabled.long;
-    flags_long = few-couples;
+    flags_long = few_couples;
     row = λ c v k l. digits_lt ((div-lt_iff_lt-mul (pow_pos m.inputs)).1 k) l;
     moved = λ c v k l. digits_lt (y.checked.sound.closed c k) l;
   }

@@ -23,12 +23,12 @@ use Rattle.machine.proofs.Stored.{stored_more}
 use Rattle.several.specs.Several.{multiples, MultiRunTo}
 use Rattle.several.specs.Lists.{stored_list}
 use Rattle.several.specs.Weights.{extra, unweighed}
-use Rattle.several.proofs.Listed.{Away, listed-run, listed-multiples, listed-away}
+use Rattle.several.proofs.Listed.{Away, listed_run, listed_multiples, listed_away}
 use Rattle.several.proofs.Lists.{stored_list_more}
 use Rattle.plan.specs.inner.Writing.{settings, stored_by}
-use Rattle.plan.specs.inner.Choosing.{noted_change, noted_run, looks_at, wanted, notedAt, noted, plan}
-use Rattle.plan.proofs.Turns.{looks-weighed, wanted-not, wanted-visited, wanted-here}
-use Rattle.plan.proofs.Visits.{Told, chain_back, visits-first, visits-last}
+use Rattle.plan.specs.inner.Choosing.{noted_change, noted_run, looks_at, wanted, noted_at, noted, plan}
+use Rattle.plan.proofs.Turns.{looks_weighed, wanted_not, wanted_visited, wanted_here}
+use Rattle.plan.proofs.Visits.{Told, chain_back, visits_first, visits_last}
 
 -- runs in their stored form, of the list or of the plan
 abbrev pub stored_as : Bool → Machine → List (List ℕ) → List ℕ
@@ -37,8 +37,8 @@ stored_as false m = stored
 
 -- a flag put up at a: couple d is a, or what its flag said before
 module _ {Q : Type 0} (F : List Bool) (a d : ℕ) (h : d < length F) (q : Decides Q (get_or F d false)) where
-  set-decides : Decides ((d ≡ a) ⊎ Q) (get_or (set F a true) d false)
-  set-decides = go (ℕ_discrete d a)
+  set_decides : Decides ((d ≡ a) ⊎ Q) (get_or (set F a true) d false)
+  set_decides = go (ℕ_discrete d a)
     where
       go : Dec (d ≡ a) → Decides ((d ≡ a) ⊎ Q) (get_or (set F a true) d false)
       go (yes e) = rw (ap (λ (k : ℕ). get_or (set F a true) k false) e ∙ get_or-set_same F a true false (rw (← e) h)) (it_holds (inl e))
@@ -57,7 +57,7 @@ module _ {m : Machine} {W P : List ℕ} (x : Told m W P) where
   noted_run_lem : {Q : Type 0} (r c : ℕ) → Away m c r → (F : List Bool) (d : ℕ) → d < length F → Decides Q (get_or F d false)
       → Decides (In d (visits m (chain c (suc r))) ⊎ Q) (get_or (noted_run m.table P (size m) c r F) d false)
   unfolding noted_run noted_change
-  noted_run_lem {Q} zero c y F d h q = rw (visits-first x c y) (decides_map to of (set-decides F c d h q))
+  noted_run_lem {Q} zero c y F d h q = rw (visits_first x c y) (decides_map to of (set_decides F c d h q))
     where
       to : (d ≡ c) ⊎ Q → In d (c ∷ []) ⊎ Q
       to i = ⊎_elim (λ e. inl (inl e)) inr i
@@ -65,7 +65,7 @@ module _ {m : Machine} {W P : List ℕ} (x : Told m W P) where
       of : In d (c ∷ []) ⊎ Q → (d ≡ c) ⊎ Q
       of i = ⊎_elim (λ j. ⊎_elim inl absurd j) inr i
   noted_run_lem {Q} (suc r) c y F d h q =
-      rw (visits-last x r c y) (decides_map to of (noted_run_lem r p (chain_back x c r y).1 (set (set F a true) b true) d (simp length-set h) (set-decides (set F a true) b d (simp length-set h) (set-decides F a d h q))))
+      rw (visits_last x r c y) (decides_map to of (noted_run_lem r p (chain_back x c r y).1 (set (set F a true) b true) d (simp length-set h) (set_decides (set F a true) b d (simp length-set h) (set_decides F a d h q))))
     where
       p : ℕ
       p = get_or P c 0
@@ -110,16 +110,16 @@ module _ {m : Machine} {W P : List ℕ} (x : Told m W P) where
   run_of c = chain c (get_or W c 0 % extra + 1)
 
   module _ (c : ℕ) (h : c < couples m) (n : get_or W c 0 ≡ unweighed → ⊥) where
-    pub run-of : MultiRunTo m c (run_of c)
+    pub run_of_lem : MultiRunTo m c (run_of c)
     unfolding settings
-    run-of = rw (add-one (get_or W c 0 % extra)) (listed-run x.sound x.few W P x.weight x.parent c h n)
+    run_of_lem = rw (add-one (get_or W c 0 % extra)) (listed_run x.sound x.few W P x.weight x.parent c h n)
 
-    multiples-of : multiples m (run_of c) ≡ get_or W c 0 / extra
+    multiples_of : multiples m (run_of c) ≡ get_or W c 0 / extra
     unfolding settings
-    multiples-of = rw (add-one (get_or W c 0 % extra)) (listed-multiples x.sound x.few W P x.weight x.parent c h n)
+    multiples_of = rw (add-one (get_or W c 0 % extra)) (listed_multiples x.sound x.few W P x.weight x.parent c h n)
 
     away_of : Away m c (get_or W c 0 % extra)
-    away_of = listed-away x.sound x.few W P x.weight x.parent c h n
+    away_of = listed_away x.sound x.few W P x.weight x.parent c h n
 
     -- one stored run more
     stored_next : (several : Bool) (runs : List (List ℕ))
@@ -127,7 +127,7 @@ module _ {m : Machine} {W P : List ℕ} (x : Told m W P) where
     unfolding stored_by
     stored_next false runs = stored_more runs (run_of c)
     stored_next true runs =
-        stored_list_more m runs (run_of c) ∙ ap (λ (k : ℕ). stored_list m runs ++ (k % 256 ∷ k / 256 ∷ stored_run (run_of c))) multiples-of
+        stored_list_more m runs (run_of c) ∙ ap (λ (k : ℕ). stored_list m runs ++ (k % 256 ∷ k / 256 ∷ stored_run (run_of c))) multiples_of
 
   module _ (several : Bool) (n : ℕ) (room : couples m ≤ n) where
     abbrev flagged : ℕ → List Bool
@@ -143,14 +143,14 @@ module _ {m : Machine} {W P : List ℕ} (x : Told m W P) where
     record Made (c : ℕ) : Type 0 where
       bytes : plan several m.table P W (size m) c (replicate n false) ≡ stored_as several m (runs c)
       long : length (flagged c) ≡ n
-      visited-are : (d : ℕ) → d < couples m → Decides (VisitedBy m d (runs c)) (get_or (flagged c) d false)
+      visited_are : (d : ℕ) → d < couples m → Decides (VisitedBy m d (runs c)) (get_or (flagged c) d false)
 
     none_made : Made 0
     unfolding noted plan planned
     none_made = record {
       bytes = nothing several;
       long = length-replicate n false;
-      visited-are = λ d h. rw (get_or-replicate n d false false (omega arith)) (it_fails (λ v. v.1));
+      visited_are = λ d h. rw (get_or-replicate n d false false (omega arith)) (it_fails (λ v. v.1));
     }
       where
         nothing : (b : Bool) → [] ≡ stored_as b m []
@@ -159,20 +159,20 @@ module _ {m : Machine} {W P : List ℕ} (x : Told m W P) where
 
     -- couple c is passed over
     passed : (c : ℕ) (made : Made c) → wanted several W (flagged c) c ≡ false → runs (suc c) ≡ runs c → Made (suc c)
-    unfolding noted notedAt plan
+    unfolding noted noted_at plan
     passed c made w e = record {
       bytes = rw (w, e) (append-nil _ ∙ made.bytes);
       long = rw w made.long;
-      visited-are = rw (w, e) made.visited-are;
+      visited_are = rw (w, e) made.visited_are;
     }
 
     -- couple c is chosen
     taken : (c : ℕ) → c < couples m → (get_or W c 0 ≡ unweighed → ⊥) → (made : Made c) → wanted several W (flagged c) c ≡ true → runs (suc c) ≡ runs c ++ (run_of c ∷ []) → Made (suc c)
-    unfolding noted notedAt plan
+    unfolding noted noted_at plan
     taken c h u made w e = record {
       bytes = rw (w, e) (ap (λ (l : List ℕ). l ++ stored_by several P (size m) c (get_or W c 0)) made.bytes ∙ sym (stored_next c h u several (runs c)));
       long = rw w (length_noted_run m.table P (size m) (get_or W c 0 % extra) c (flagged c) ∙ made.long);
-      visited-are = λ d l. rw (w, e) (one_more d (runs c) (run_of c) (rw (add-one (get_or W c 0 % extra)) (noted_run_lem (get_or W c 0 % extra) c (away_of c h u) (flagged c) d (rw made.long (omega arith)) (made.visited-are d l))));
+      visited_are = λ d l. rw (w, e) (one_more d (runs c) (run_of c) (rw (add-one (get_or W c 0 % extra)) (noted_run_lem (get_or W c 0 % extra) c (away_of c h u) (flagged c) d (rw made.long (omega arith)) (made.visited_are d l))));
     }
 
     turn : (c : ℕ) → c < couples m → Made c → Made (suc c)
@@ -180,20 +180,20 @@ module _ {m : Machine} {W P : List ℕ} (x : Told m W P) where
     turn c h made = looking (looked c) refl
       where
         same : visited m c (runs c) ≡ get_or (flagged c) c false
-        same = decides_unique _ _ _ (visited_or m c (runs c)) (made.visited-are c h)
+        same = decides_unique _ _ _ (visited_or m c (runs c)) (made.visited_are c h)
 
         weighed : looked c ≡ true → (b : Bool) → get_or (flagged c) c false ≡ b → Made (suc c)
-        weighed l true e = passed c made (wanted-visited several W (flagged c) c e) (rw (l, same ∙ e) refl)
-        weighed l false e = taken c h (looks-weighed several (get_or W c 0) l) made (wanted-here several W (flagged c) c l e) (rw (l, same ∙ e) refl)
+        weighed l true e = passed c made (wanted_visited several W (flagged c) c e) (rw (l, same ∙ e) refl)
+        weighed l false e = taken c h (looks_weighed several (get_or W c 0) l) made (wanted_here several W (flagged c) c l e) (rw (l, same ∙ e) refl)
 
         looking : (b : Bool) → looked c ≡ b → Made (suc c)
         looking true l = weighed l (get_or (flagged c) c false) refl
-        looking false l = passed c made (wanted-not several W (flagged c) c l) (rw l refl)
+        looking false l = passed c made (wanted_not several W (flagged c) c l) (rw l refl)
 
     made : (c : ℕ) → c ≤ couples m → Made c
     made zero h = none_made
     made (suc c) h = turn c h (made c (omega arith))
 
     -- the stored runs of the chosen couples are those of the computed plan or list
-    pub plan-stored : plan several m.table P W (size m) (couples m) (replicate n false) ≡ stored_as several m (planned m looked run_of (couples m))
-    plan-stored = (made (couples m) (le_refl _)).bytes
+    pub plan_stored : plan several m.table P W (size m) (couples m) (replicate n false) ≡ stored_as several m (planned m looked run_of (couples m))
+    plan_stored = (made (couples m) (le_refl _)).bytes

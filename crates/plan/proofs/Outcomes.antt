@@ -14,36 +14,36 @@ use Rattle.machine.specs.Runs.{Machine, machine_by, size, couples, Sound, Marked
 use Rattle.machine.specs.Shortest.{RunTo}
 use Rattle.machine.specs.Plans.{stored}
 use Rattle.machine.specs.declared.Frame.{Frame}
-use Rattle.machine.proofs.Plans.{plan-unique}
+use Rattle.machine.proofs.Plans.{plan_unique}
 use Rattle.several.specs.Several.{singly, MultiRunTo}
 use Rattle.several.specs.Lists.{MultiList, stored_list}
 use Rattle.several.specs.Weights.{extra, unweighed}
-use Rattle.several.proofs.Runs.{multi-unique}
+use Rattle.several.proofs.Runs.{multi_unique}
 use Rattle.several.proofs.Single.{singly_sound, singly_by}
 use Rattle.several.proofs.Listed.{rank_of_lem}
-use Rattle.several.proofs.Lists.{list-unique}
+use Rattle.several.proofs.Lists.{list_unique}
 use Rattle.marking.specs.Marking.{ParentedAs}
 use Rattle.plan.specs.Planning.{ShortRun, RunDone, PlanBytes, ShortOf, WholeDone}
 use Rattle.plan.specs.Multi.{ListBytes}
 use Rattle.plan.specs.inner.Writing.{unvisited_by, Ends, RunEnds}
 use Rattle.plan.specs.inner.Choosing.{whole_plan}
 use Rattle.plan.specs.inner.Both.{RunBy, PlanBy}
-use Rattle.plan.proofs.Chains.{length-settings}
+use Rattle.plan.proofs.Chains.{length_settings}
 use Rattle.plan.proofs.Visits.{Told}
-use Rattle.plan.proofs.Noted.{run_of, run-of}
-use Rattle.plan.proofs.Bytes.{run-single, plan-made, list-made}
+use Rattle.plan.proofs.Noted.{run_of, run_of_lem}
+use Rattle.plan.proofs.Bytes.{run_single, plan_made, list_made}
 use Rattle.plan.proofs.Marked.{Ready}
-use Rattle.plan.proofs.Endings.{Ended, refused, Sixteen, whole_sixteen, rank_sixteen, whole-ended, run-ended}
+use Rattle.plan.proofs.Endings.{Ended, refused, Sixteen, whole_sixteen, rank_sixteen, whole_ended, run_ended}
 
 -- the stored plan is one
 pub bytes_unique : {m : Machine} → Sound m → {w u : List ℕ} → PlanBytes m w → PlanBytes m u → w ≡ u
-bytes_unique ok (p, x, e) (q, z, f) = e ∙ ap stored (plan-unique ok x z) ∙ sym f
+bytes_unique ok (p, x, e) (q, z, f) = e ∙ ap stored (plan_unique ok x z) ∙ sym f
 
 -- and so is the stored list
 pub list_bytes_unique : {m : Machine} → Sound m → {w u : List ℕ} → ListBytes m w → ListBytes m u → w ≡ u
 list_bytes_unique {m} ok (p, k, x, y, e) (q, l, z, v, f) =
-    let same = plan-unique (singly_sound ok) x z in
-    e ∙ ap (stored_list m) (list-unique ok (subst (λ (r : List (List ℕ)). MultiList m r (couples m) k) same y) v) ∙ sym f
+    let same = plan_unique (singly_sound ok) x z in
+    e ∙ ap (stored_list m) (list_unique ok (subst (λ (r : List (List ℕ)). MultiList m r (couples m) k) same y) v) ∙ sym f
 
 -- what is written, refused by 16 and told by success
 abbrev run_is : Bool → Machine → ℕ → List ℕ → Type 0
@@ -86,8 +86,8 @@ plan_as false f T e = record { verdict = e.verdict; ranks = left_map (λ c x. su
 module _ (several : Bool) (f : Frame) (T : List ℕ) {ranks₀ weights₀ parents₀ ranks₁ weights₁ parents₁ : List ℕ} {a : Answer}
     (p : ParentedAs (machine_by several f T) ranks₀ weights₀ parents₀ a ranks₁ weights₁ parents₁) (weighs : length weights₀ ≡ most_couples) (lent : length parents₀ ≡ most_couples)
     (no_zero : a.number ≡ 0 → ⊥) where
-  pub run-refused : (c : ℕ) (run : List ℕ) → RunBy several f T c ranks₀ run a ranks₁ run
-  run-refused c run = run_as several f T (refused p weighs lent no_zero)
+  pub run_refused : (c : ℕ) (run : List ℕ) → RunBy several f T c ranks₀ run a ranks₁ run
+  run_refused c run = run_as several f T (refused p weighs lent no_zero)
 
   pub plan_refused : (out : List ℕ) → PlanBy several f T ranks₀ out a ranks₁ out
   plan_refused out = plan_as several f T (refused p weighs lent no_zero)
@@ -96,26 +96,26 @@ module _ (several : Bool) (f : Frame) (T : List ℕ) {ranks₀ weights₀ parent
 run_right : (several : Bool) (f : Frame) (T : List ℕ) {W P : List ℕ} (x : Told (machine_by several f T) W P) (c room : ℕ)
     → let m = machine_by several f T in
     c < couples m → (get_or W c 0 ≡ unweighed → ⊥) → Sixteen (run_of x c) room (run_short several m c room) (run_done several m c) × run_is several m c (run_of x c)
-run_right true f T x c room h n = let r = run-of x c h n in (whole_sixteen (λ u i. multi-unique x.sound c u _ i r) r, r)
+run_right true f T x c room h n = let r = run_of_lem x c h n in (whole_sixteen (λ u i. multi_unique x.sound c u _ i r) r, r)
 run_right false f T {W} {P} x c room h n =
-    let r = run-single x (singly_by false f T) c h n in
-    let l = length-settings P (2 ^ f.inputs) (get_or W c 0 % extra + 1) c in
+    let r = run_single x (singly_by false f T) c h n in
+    let l = length_settings P (2 ^ f.inputs) (get_or W c 0 % extra + 1) c in
     (rank_sixteen (rank_of_lem r (l ∙ add-one _)) l, r)
 
 plan_right : (several : Bool) (f : Frame) (T : List ℕ) {W P : List ℕ} → Told (machine_by several f T) W P
     → let m = machine_by several f T in
     plan_is several m (whole_plan several T P W (size m) (couples m))
-plan_right true f T x = list-made x
-plan_right false f T x = plan-made x (singly_by false f T)
+plan_right true f T x = list_made x
+plan_right false f T x = plan_made x (singly_by false f T)
 
 module _ (several : Bool) (f : Frame) (T : List ℕ) {ranks₀ R W P : List ℕ} {a : Answer} (y : Ready (machine_by several f T) ranks₀ R W P a) where
   abbrev m : Machine
   m = machine_by several f T
 
   pub run_ends : {c : ℕ} {run run₁ : List ℕ} {b : Answer} → RunEnds several W P (size m) (couples m) c run b run₁ → RunBy several f T c ranks₀ run b R run₁
-  run_ends {c} {run} e = run_as several f T (run-ended y (run_right several f T y.told c (length run)) e)
+  run_ends {c} {run} e = run_as several f T (run_ended y (run_right several f T y.told c (length run)) e)
 
-  pub plan-ends : {out out₁ : List ℕ} {b : Answer} → Ends (whole_plan several T P W (size m) (couples m)) out b out₁ → PlanBy several f T ranks₀ out b R out₁
-  plan-ends e =
+  pub plan_ends : {out out₁ : List ℕ} {b : Answer} → Ends (whole_plan several T P W (size m) (couples m)) out b out₁ → PlanBy several f T ranks₀ out b R out₁
+  plan_ends e =
       let is = plan_right several f T y.told in
-      plan_as several f T (whole-ended y (λ u i. plan_one several y.told.sound u _ i is) is e)
+      plan_as several f T (whole_ended y (λ u i. plan_one several y.told.sound u _ i is) is e)

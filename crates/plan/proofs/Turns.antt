@@ -12,7 +12,7 @@ use lib.Dec.{leb}
 use borrow.Author.Tests.{eq-eqb, ne_eqb}
 use Rattle.verdict.proofs.Tests.{true≢false}
 use Rattle.several.specs.Weights.{extra, unweighed}
-use Rattle.plan.specs.inner.Choosing.{noted_change, noted_run, looks_at, wanted, notedAt, bytes_at, noted, flags, bytes, Turn, Chosen, Reach, RoomFor}
+use Rattle.plan.specs.inner.Choosing.{noted_change, noted_run, looks_at, wanted, noted_at, bytes_at, noted, flags, bytes, Turn, Chosen, Reach, RoomFor}
 
 -- one change noted, one fewer is left
 pub noted_back : (T P : List ℕ) (z c m n : ℕ) (F : List Bool) → n ≡ m + 1
@@ -21,12 +21,12 @@ unfolding noted_run
 noted_back T P z c m n F e = rw (e, add-one m)
 
 module _ {T P : List ℕ} {z l c : ℕ} (r : RoomFor T P z l c) where
-  pub parent-room : RoomFor T P z l (get_or P c 0)
-  parent-room = record { total = r.total; room = r.room; below = r.room.tree.parent c r.below }
+  pub parent_room : RoomFor T P z l (get_or P c 0)
+  parent_room = record { total = r.total; room = r.room; below = r.room.tree.parent c r.below }
 
   -- the couples that a change from c visits
-  pub change-room : (v : ℕ) → v < z → Reach T z l c v
-  change-room v h =
+  pub change_room : (v : ℕ) → v < z → Reach T z l c v
+  change_room v h =
       let a = r.room.row c v r.below h in
       record {
         some = r.room.tree.some;
@@ -37,12 +37,12 @@ module _ {T P : List ℕ} {z l c : ℕ} (r : RoomFor T P z l c) where
 
 -- at which couples the plan or list looks, by their weights
 module _ (several : Bool) (w : ℕ) where
-  pub looks-none : w ≡ unweighed → looks_at several w ≡ false
+  pub looks_none : w ≡ unweighed → looks_at several w ≡ false
   unfolding looks_at
-  looks-none e = rw (eq-eqb w unweighed e) refl
+  looks_none e = rw (eq-eqb w unweighed e) refl
 
-  pub looks-weighed : looks_at several w ≡ true → w ≡ unweighed → ⊥
-  looks-weighed e f = true≢false (sym e ∙ looks-none f)
+  pub looks_weighed : looks_at several w ≡ true → w ≡ unweighed → ⊥
+  looks_weighed e f = true≢false (sym e ∙ looks_none f)
 
 pub looks_plan : (w : ℕ) → (w ≡ unweighed → ⊥) → looks_at false w ≡ true
 unfolding looks_at
@@ -54,63 +54,63 @@ looks_list w n = rw (ne_eqb w unweighed n) refl
 
 -- when a couple is wanted
 module _ (several : Bool) (W : List ℕ) (F : List Bool) (c : ℕ) where
-  pub wanted-not : looks_at several (get_or W c 0) ≡ false → wanted several W F c ≡ false
+  pub wanted_not : looks_at several (get_or W c 0) ≡ false → wanted several W F c ≡ false
   unfolding wanted
-  wanted-not e = rw e refl
+  wanted_not e = rw e refl
 
-  pub wanted-visited : get_or F c false ≡ true → wanted several W F c ≡ false
+  pub wanted_visited : get_or F c false ≡ true → wanted several W F c ≡ false
   unfolding wanted
-  wanted-visited f = rw f (either (looks_at several (get_or W c 0)))
+  wanted_visited f = rw f (either (looks_at several (get_or W c 0)))
     where
       either : (b : Bool) → cond b false false ≡ false
       either true = refl
       either false = refl
 
-  pub wanted-here : looks_at several (get_or W c 0) ≡ true → get_or F c false ≡ false → wanted several W F c ≡ true
+  pub wanted_here : looks_at several (get_or W c 0) ≡ true → get_or F c false ≡ false → wanted several W F c ≡ true
   unfolding wanted
-  wanted-here e f = rw (e, f) refl
+  wanted_here e f = rw (e, f) refl
 
-  pub wanted-looks : wanted several W F c ≡ true → looks_at several (get_or W c 0) ≡ true
-  wanted-looks e = go (looks_at several (get_or W c 0)) refl
+  pub wanted_looks : wanted several W F c ≡ true → looks_at several (get_or W c 0) ≡ true
+  wanted_looks e = go (looks_at several (get_or W c 0)) refl
     where
       go : (b : Bool) → looks_at several (get_or W c 0) ≡ b → b ≡ true
       go true f = refl
-      go false f = absurd (true≢false (sym e ∙ wanted-not f))
+      go false f = absurd (true≢false (sym e ∙ wanted_not f))
 
 module _ (several : Bool) (T P W : List ℕ) (z c : ℕ) (F C : List Bool) where
   passed_over : wanted several W F c ≡ false → Turn several T P W z c 0 F C F (set C c false)
-  unfolding notedAt bytes_at
-  passed_over e = record { bytes-are = rw e refl; bytes-few = omega arith; visited-are = rw e refl; chosen-are = rw e refl }
+  unfolding noted_at bytes_at
+  passed_over e = record { bytes_are = rw e refl; bytes_few = omega arith; visited_are = rw e refl; chosen_are = rw e refl }
 
-  pub turn-not : looks_at several (get_or W c 0) ≡ false → Turn several T P W z c 0 F C F (set C c false)
-  turn-not e = passed_over (wanted-not several W F c e)
+  pub turn_not : looks_at several (get_or W c 0) ≡ false → Turn several T P W z c 0 F C F (set C c false)
+  turn_not e = passed_over (wanted_not several W F c e)
 
-  pub turn-visited : get_or F c false ≡ true → Turn several T P W z c 0 F C F (set C c false)
-  turn-visited f = passed_over (wanted-visited several W F c f)
+  pub turn_visited : get_or F c false ≡ true → Turn several T P W z c 0 F C F (set C c false)
+  turn_visited f = passed_over (wanted_visited several W F c f)
 
   -- the count bytes and one more are k
-  pub turn-taken : (r k : ℕ) (F' : List Bool) → cond several 5 3 ≡ k → k ≤ 5 → r ≡ get_or W c 0 % extra → looks_at several (get_or W c 0) ≡ true → get_or F c false ≡ false
+  pub turn_taken : (r k : ℕ) (F' : List Bool) → cond several 5 3 ≡ k → k ≤ 5 → r ≡ get_or W c 0 % extra → looks_at several (get_or W c 0) ≡ true → get_or F c false ≡ false
       → F' ≡ noted_run T P z c r F → Turn several T P W z c (r + k) F C F' (set (set C c false) c true)
-  unfolding notedAt bytes_at
-  turn-taken r k F' o l i g f s =
-      let e = wanted-here several W F c g f in
+  unfolding noted_at bytes_at
+  turn_taken r k F' o l i g f s =
+      let e = wanted_here several W F c g f in
       record {
-        bytes-are = rw (e, o, i) refl;
-        bytes-few = let h : get_or W c 0 % extra < extra = mod-lt (get_or W c 0) (omega arith) in omega arith;
-        visited-are = rw (e, ← i) s;
-        chosen-are = rw e (set-set C c false true);
+        bytes_are = rw (e, o, i) refl;
+        bytes_few = let h : get_or W c 0 % extra < extra = mod-lt (get_or W c 0) (omega arith) in omega arith;
+        visited_are = rw (e, ← i) s;
+        chosen_are = rw e (set-set C c false true);
       }
 
 module _ (several : Bool) (T P W : List ℕ) (z : ℕ) where
   pub chosen_none : (F C : List Bool) → Chosen several T P W z 0 0 F C F C
   unfolding noted flags bytes
-  chosen_none F C = record { bytes-are = refl; bytes-few = omega arith; visited-are = refl; chosen-are = refl }
+  chosen_none F C = record { bytes_are = refl; bytes_few = omega arith; visited_are = refl; chosen_are = refl }
 
   pub chosen_more : {c n k : ℕ} {F C F' C' F'' C'' : List Bool} → Chosen several T P W z c n F C F' C' → Turn several T P W z c k F' C' F'' C'' → Chosen several T P W z (c + 1) (n + k) F C F'' C''
   unfolding noted flags bytes
   chosen_more {c} {n} {k} {F} {C} {F'} {C'} {F''} {C''} p q = rw (add-one c) (record {
-    bytes-are = ap₂ (λ (a b : ℕ). a + b) p.bytes-are (q.bytes-are ∙ ap (bytes_at several T P W z c) p.visited-are);
-    bytes-few = omega (arith, p.bytes-few, q.bytes-few);
-    visited-are = q.visited-are ∙ ap (notedAt several T P W z c) p.visited-are;
-    chosen-are = q.chosen-are ∙ ap₂ (λ (a b : List Bool). set a c (wanted several W b c)) p.chosen-are p.visited-are;
+    bytes_are = ap₂ (λ (a b : ℕ). a + b) p.bytes_are (q.bytes_are ∙ ap (bytes_at several T P W z c) p.visited_are);
+    bytes_few = omega (arith, p.bytes_few, q.bytes_few);
+    visited_are = q.visited_are ∙ ap (noted_at several T P W z c) p.visited_are;
+    chosen_are = q.chosen_are ∙ ap₂ (λ (a b : List Bool). set a c (wanted several W b c)) p.chosen_are p.visited_are;
   })

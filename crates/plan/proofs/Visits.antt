@@ -13,9 +13,9 @@ use Rattle.machine.specs.Runs.{Machine, size, couples, couple, move, Sound, visi
 use Rattle.machine.specs.inner.Trails.{Steps}
 use Rattle.machine.proofs.Trails.{stepped}
 use Rattle.several.specs.Weights.{WeightOrNone, ParentOrNone}
-use Rattle.several.proofs.Listed.{Away, away_starts, away-back}
+use Rattle.several.proofs.Listed.{Away, away_starts, away_back}
 use Rattle.plan.specs.inner.Writing.{settings}
-use Rattle.plan.proofs.Chains.{settings-none, settings-more, length-settings}
+use Rattle.plan.proofs.Chains.{settings_none, settings_more, length_settings}
 
 -- the weights and parents of a sound machine that is not too large
 pub record Told (m : Machine) (W P : List ℕ) : Type 0 where
@@ -35,23 +35,23 @@ ends m (v ∷ vs) = end_from m m.initial vs
 
 -- one setting more
 module _ (m : Machine) where
-  end-from : (s w : ℕ) (ws : List ℕ) → end_from m s (ws ++ (w ∷ [])) ≡ move m (end_from m s ws) w
-  end-from s w [] = refl
-  end-from s w (x ∷ ws) = end-from (move m s x) w ws
+  end_from_lem : (s w : ℕ) (ws : List ℕ) → end_from m s (ws ++ (w ∷ [])) ≡ move m (end_from m s ws) w
+  end_from_lem s w [] = refl
+  end_from_lem s w (x ∷ ws) = end_from_lem (move m s x) w ws
 
   ends_more : (w : ℕ) (vs : List ℕ) → 0 < length vs → ends m (vs ++ (w ∷ [])) ≡ move m (ends m vs) w
   ends_more w [] h = absurd (omega arith)
-  ends_more w (v ∷ vs) h = end-from m.initial w vs
+  ends_more w (v ∷ vs) h = end_from_lem m.initial w vs
 
-  visits-from : (s w : ℕ) (ws : List ℕ)
+  visits_from_lem : (s w : ℕ) (ws : List ℕ)
       → visits_from m s (ws ++ (w ∷ [])) ≡ visits_from m s ws ++ (couple m (end_from m s ws) w ∷ couple m (move m (end_from m s ws) w) w ∷ [])
-  visits-from s w [] = refl
-  visits-from s w (x ∷ ws) = ap (λ (l : List ℕ). couple m s x ∷ couple m (move m s x) x ∷ l) (visits-from (move m s x) w ws)
+  visits_from_lem s w [] = refl
+  visits_from_lem s w (x ∷ ws) = ap (λ (l : List ℕ). couple m s x ∷ couple m (move m s x) x ∷ l) (visits_from_lem (move m s x) w ws)
 
-  visits-more : (w : ℕ) (vs : List ℕ) → 0 < length vs
+  visits_more : (w : ℕ) (vs : List ℕ) → 0 < length vs
       → visits m (vs ++ (w ∷ [])) ≡ visits m vs ++ (couple m (ends m vs) w ∷ couple m (move m (ends m vs) w) w ∷ [])
-  visits-more w [] h = absurd (omega arith)
-  visits-more w (v ∷ vs) h = ap (λ (l : List ℕ). couple m m.initial v ∷ l) (visits-from m.initial w vs)
+  visits_more w [] h = absurd (omega arith)
+  visits_more w (v ∷ vs) h = ap (λ (l : List ℕ). couple m m.initial v ∷ l) (visits_from_lem m.initial w vs)
 
 -- the state of a couple, by its number
 state_is : (m : Machine) {c s v : ℕ} → c ≡ couple m s v → v < size m → c / size m ≡ s
@@ -69,22 +69,22 @@ module _ {m : Machine} {W P : List ℕ} (x : Told m W P) where
   abbrev chain : ℕ → ℕ → List ℕ
   chain c n = settings P (size m) c n
 
-  chain-some : (c n : ℕ) → 0 < length (chain c (suc n))
-  chain-some c n = rw (length-settings P (size m) (suc n) c) (omega arith)
+  chain_some : (c n : ℕ) → 0 < length (chain c (suc n))
+  chain_some c n = rw (length_settings P (size m) (suc n) c) (omega arith)
 
   -- one couple back along the chain
   pub chain_back : (c r : ℕ) → Away m c (suc r) → Steps m (get_or P c 0) c × Away m (get_or P c 0) r
-  chain_back = away-back x.sound x.few W P x.weight x.parent
+  chain_back = away_back x.sound x.few W P x.weight x.parent
 
   -- the settings of a resting couple's chain end in its state
   ends_at : (r c : ℕ) → Away m c r → get_or m.table c 0 ≡ c / size m → ends m (chain c (suc r)) ≡ c / size m
-  ends_at zero c y q = rw (settings-more, settings-none) (sym (first y))
+  ends_at zero c y q = rw (settings_more, settings_none) (sym (first y))
   ends_at (suc r) c y q =
       let p = get_or P c 0 in
       let (s, b) = chain_back c r y in
       let i = ends_at r p b (rests_there s) in
-      rw (settings-more P (size m) c (suc r))
-      (ends_more m (c % size m) (chain p (suc r)) (chain-some p r)
+      rw (settings_more P (size m) c (suc r))
+      (ends_more m (c % size m) (chain p (suc r)) (chain_some p r)
       ∙ ap₂ (λ (j k : ℕ). move m j k) (i ∙ state_is m s.here s.below) (stepped s)
       ∙ ⊎_elim
       (λ (e : c ≡ couple m s.state s.to). sym (ap (λ (k : ℕ). get_or m.table k 0) e) ∙ q)
@@ -92,15 +92,15 @@ module _ {m : Machine} {W P : List ℕ} (x : Told m W P) where
       s.visits)
 
   -- what the first setting visits
-  pub visits-first : (c : ℕ) → Away m c 0 → visits m (chain c 1) ≡ c ∷ []
-  visits-first c y =
-      rw (settings-more, settings-none) (ap (λ (k : ℕ). k ∷ []) (ap (λ (s : ℕ). couple m s (c % size m)) (sym (first y)) ∙ div-add-mod' c (size m)))
+  pub visits_first : (c : ℕ) → Away m c 0 → visits m (chain c 1) ≡ c ∷ []
+  visits_first c y =
+      rw (settings_more, settings_none) (ap (λ (k : ℕ). k ∷ []) (ap (λ (s : ℕ). couple m s (c % size m)) (sym (first y)) ∙ div-add-mod' c (size m)))
 
   -- and the last change
-  pub visits-last : (r c : ℕ) → Away m c (suc r)
+  pub visits_last : (r c : ℕ) → Away m c (suc r)
       → let s = get_or P c 0 / size m in
       visits m (chain c (suc (suc r))) ≡ visits m (chain (get_or P c 0) (suc r)) ++ (couple m s (c % size m) ∷ couple m (move m s (c % size m)) (c % size m) ∷ [])
-  visits-last r c y =
+  visits_last r c y =
       let p = get_or P c 0 in
       let (s, b) = chain_back c r y in
-      rw (settings-more P (size m) c (suc r), ← ends_at r p b (rests_there s)) (visits-more m (c % size m) (chain p (suc r)) (chain-some p r))
+      rw (settings_more P (size m) c (suc r), ← ends_at r p b (rests_there s)) (visits_more m (c % size m) (chain p (suc r)) (chain_some p r))

@@ -9,12 +9,12 @@ use Rattle.verdict.specs.Checks.{check, Passed, Judged}
 use Rattle.verdict.specs.Buffers.{Front}
 use Rattle.verdict.specs.declared.Answer.{Answer}
 use Rattle.verdict.proofs.Order.{Passes, judged_on, judged_stop, judged_passes, judged_rest, judged_within, roomy}
-use Rattle.verdict.proofs.Fills.{written-nothing, written-done}
+use Rattle.verdict.proofs.Fills.{written_nothing, written_done}
 use Rattle.machine.specs.Runs.{Machine, machine_by, machine_of, Fault, Run}
 use Rattle.machine.specs.Boards.{readings, specified}
 use Rattle.machine.specs.declared.Frame.{Frame}
 use Rattle.machine.proofs.Stored.{setting_below, run_some}
-use Rattle.machine.proofs.Faults.{run-faultless}
+use Rattle.machine.proofs.Faults.{run_faultless}
 use Rattle.tables.specs.Tables.{size_checks, move_checks, table_checks}
 use Rattle.tables.specs.inner.Fits.{Checked}
 use Rattle.tables.proofs.Gate.{checked}
@@ -28,11 +28,11 @@ module _ (several : Bool) (f : Frame) (table words run readings₀ : List ℕ) w
 
   -- a refusal writes nothing
   refused : {a : Answer} → Judged (expected_checks m (length words) run (length readings₀)) Passed a → (a.number ≡ 0 → ⊥) → ExpectedAs m words run readings₀ a readings₀
-  refused v n = record { verdict = judged_stop [] v n; readings = written-nothing n }
+  refused v n = record { verdict = judged_stop [] v n; readings = written_nothing n }
 
   module _ {a : Answer} (v : Judged (shape_checks m (length words) run (length readings₀)) Passed a) where
-    pub no-shape : (a.number ≡ 0 → ⊥) → ExpectedAs m words run readings₀ a readings₀
-    no-shape n = refused (judged_stop (move_checks m ++ check 17 (Fault m run) ∷ []) v n) n
+    pub no_shape : (a.number ≡ 0 → ⊥) → ExpectedAs m words run readings₀ a readings₀
+    no_shape n = refused (judged_stop (move_checks m ++ check 17 (Fault m run) ∷ []) v n) n
 
     module _ (e : a.number ≡ 0) {b : Answer} (w : Judged (table_checks m) Passed b) where
       shape : Passes (shape_checks m (length words) run (length readings₀))
@@ -42,8 +42,8 @@ module _ (several : Bool) (f : Frame) (table words run readings₀ : List ℕ) w
       moves : Judged (move_checks m) Passed b
       moves = judged_rest (size_checks m) (record { nowhere = λ p f. shape.0.nowhere p (f.0, λ s. f.1 s.sizes) }, (shape.1.0, tt)) w
 
-      pub no-moves : (b.number ≡ 0 → ⊥) → ExpectedAs m words run readings₀ b readings₀
-      no-moves n = refused (judged_on 3 v refl e (judged_stop (check 17 (Fault m run) ∷ []) moves n)) n
+      pub no_moves : (b.number ≡ 0 → ⊥) → ExpectedAs m words run readings₀ b readings₀
+      no_moves n = refused (judged_on 3 v refl e (judged_stop (check 17 (Fault m run) ∷ []) moves n)) n
 
       module _ (g : b.number ≡ 0) {d : Answer} (u : Judged (fault_checks m run) Passed d) where
         -- a table that passed, whichever changes there are
@@ -60,18 +60,18 @@ module _ (several : Bool) (f : Frame) (table words run readings₀ : List ℕ) w
         no_run n = refused all n
 
         module _ (h : d.number ≡ 0) where
-          is-run : Run m run
-          is-run = (run-faultless m run).1 (judged_passes 17 faults refl h).0.nowhere
+          is_run : Run m run
+          is_run = (run_faultless m run).1 (judged_passes 17 faults refl h).0.nowhere
 
           pub walkable : Walkable (machine_of f table) (length words) run (length readings₀)
           walkable = record {
             checked = passed false;
             worded = roomy shape.1.1.0;
-            some = run_some m run is-run;
-            below = setting_below m run is-run;
+            some = run_some m run is_run;
+            below = setting_below m run is_run;
             fits = roomy shape.1.1.1.0;
           }
 
           pub done : {k : ℕ} {readings₁ : List ℕ} → k ≡ readings_needed run → Front (readings (specified m (λ s. get_or words s 0)) run) readings₀ readings₁
               → ExpectedAs m words run readings₀ (record { number = 0; place = k }) readings₁
-          done n x = record { verdict = judged_on 17 all refl h (record { verdict = record { number = refl; place = n } }); readings = written-done refl x refl }
+          done n x = record { verdict = judged_on 17 all refl h (record { verdict = record { number = refl; place = n } }); readings = written_done refl x refl }

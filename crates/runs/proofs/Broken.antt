@@ -16,7 +16,7 @@ use Rattle.machine.specs.Runs.{Machine, Run, Fault}
 use Rattle.machine.specs.Plans.{stored_run, stored, runs_in}
 use Rattle.machine.proofs.Order.{below_or}
 use Rattle.machine.proofs.Stored.{runs_stored}
-use Rattle.machine.proofs.Faults.{run-faultless}
+use Rattle.machine.proofs.Faults.{run_faultless}
 use Rattle.runs.specs.Stored.{settings_at, StoredRuns, Broken}
 use Rattle.runs.specs.inner.Splits.{Whole, StoredAt, Next}
 use Rattle.runs.specs.inner.Splits.Next.{run, none}
@@ -24,8 +24,8 @@ use Rattle.runs.proofs.Front.{stored_front, whole_at, cut_none, front_or}
 
 module _ (m : Machine) where
   -- a broken byte of what stands behind stored settings
-  pub broken-behind : (vs : List ℕ) {after : List ℕ} {q : ℕ} → Broken m after q → Broken m (stored_run vs ++ after) (length (stored_run vs) + q)
-  broken-behind vs {after} {q} b = record {
+  pub broken_behind : (vs : List ℕ) {after : List ℕ} {q : ℕ} → Broken m after q → Broken m (stored_run vs ++ after) (length (stored_run vs) + q)
+  broken_behind vs {after} {q} b = record {
     inside = omega (arith, b.inside, length-append (stored_run vs) after);
     before = vs ∷ b.before;
     splits = take-append-add (stored_run vs) after q ∙ ap (λ (l : List ℕ). stored_run vs ++ l) b.splits;
@@ -33,8 +33,8 @@ module _ (m : Machine) where
   }
 
   -- and a run's own bytes are not broken
-  pub broken-ahead : (vs : List ℕ) {after : List ℕ} {p : ℕ} → Run m vs → Broken m (stored_run vs ++ after) p → (q : ℕ) × (p ≡ length (stored_run vs) + q) × Broken m after q
-  broken-ahead vs {after} {p} r b = by b.before b.splits
+  pub broken_ahead : (vs : List ℕ) {after : List ℕ} {p : ℕ} → Run m vs → Broken m (stored_run vs ++ after) p → (q : ℕ) × (p ≡ length (stored_run vs) + q) × Broken m after q
+  broken_ahead vs {after} {p} r b = by b.before b.splits
     where
       bytes : List ℕ
       bytes = stored_run vs ++ after
@@ -46,7 +46,7 @@ module _ (m : Machine) where
       by [] s =
           let z : p ≡ 0 = sym reach ∙ ap length s in
           let (i, f) = b.refused vs after (ap (λ (k : ℕ). drop k bytes) z) in
-          absurd ((run-faultless m vs).0 r i f)
+          absurd ((run_faultless m vs).0 r i f)
       by (ws ∷ before) s =
           let q = length (stored before) in
           let (same, is) = stored_front vs ws after (stored before ++ drop p bytes)
@@ -65,15 +65,15 @@ module _ (m : Machine) where
   -- stored runs are broken nowhere
   unbroken : (runs : List (List ℕ)) → ((vs : List ℕ) → In vs runs → Run m vs) → (p : ℕ) → Broken m (stored runs) p → ⊥
   unbroken [] each p b = omega (arith, b.inside)
-  unbroken (vs ∷ runs) each p b = let (q, _, behind) = broken-ahead vs (each vs (inl refl)) b in unbroken runs (λ us i. each us (inr i)) q behind
+  unbroken (vs ∷ runs) each p b = let (q, _, behind) = broken_ahead vs (each vs (inl refl)) b in unbroken runs (λ us i. each us (inr i)) q behind
 
   -- bytes of which no settings are stored at the front
-  none-broken : {bytes : List ℕ} → 0 < length bytes → ((vs after : List ℕ) → bytes ≡ stored_run vs ++ after → ⊥) → Broken m bytes 0
-  none-broken l n = record { inside = l; before = []; splits = refl; refused = λ vs after e. absurd (n vs after e) }
+  none_broken : {bytes : List ℕ} → 0 < length bytes → ((vs after : List ℕ) → bytes ≡ stored_run vs ++ after → ⊥) → Broken m bytes 0
+  none_broken l n = record { inside = l; before = []; splits = refl; refused = λ vs after e. absurd (n vs after e) }
 
   -- or of which those that are have a fault
-  fault-broken : (vs after : List ℕ) {i : ℕ} → Fault m vs i → Broken m (stored_run vs ++ after) 0
-  fault-broken vs after {i} f = record {
+  fault_broken : (vs after : List ℕ) {i : ℕ} → Fault m vs i → Broken m (stored_run vs ++ after) 0
+  fault_broken vs after {i} f = record {
     inside = omega arith;
     before = [];
     splits = refl;
@@ -81,43 +81,43 @@ module _ (m : Machine) where
   }
 
   -- the two answers of a search for the run at a byte
-  pub next-none : {bytes : List ℕ} {p : ℕ} → p < length bytes → length bytes < p + 2 + settings_at bytes p → Next m bytes p Nothing
-  next-none {bytes} {p} l c = none (none-broken (omega (arith, length-drop p bytes)) (cut_none bytes p c))
+  pub next_none : {bytes : List ℕ} {p : ℕ} → p < length bytes → length bytes < p + 2 + settings_at bytes p → Next m bytes p Nothing
+  next_none {bytes} {p} l c = none (none_broken (omega (arith, length-drop p bytes)) (cut_none bytes p c))
 
-  pub next-fault : {bytes : List ℕ} {p e i : ℕ} → Whole bytes p e → Fault m (take (e - (p + 2)) (drop (p + 2) bytes)) i → Next m bytes p Nothing
-  next-fault w f = let s = whole_at w in none (subst (λ l. Broken m l 0) (sym s.is) (fault-broken _ _ f))
+  pub next_fault : {bytes : List ℕ} {p e i : ℕ} → Whole bytes p e → Fault m (take (e - (p + 2)) (drop (p + 2) bytes)) i → Next m bytes p Nothing
+  next_fault w f = let s = whole_at w in none (subst (λ l. Broken m l 0) (sym s.is) (fault_broken _ _ f))
 
   pub next_run : {bytes : List ℕ} {p e : ℕ} → Whole bytes p e → ((i : ℕ) → Fault m (take (e - (p + 2)) (drop (p + 2) bytes)) i → ⊥) → Next m bytes p (At e)
-  next_run w n = run ((run-faultless m _).1 n) (whole_at w)
+  next_run w n = run ((run_faultless m _).1 n) (whole_at w)
 
   -- a stored run in front of stored runs
-  stored-cons : (vs : List ℕ) {after : List ℕ} → Run m vs → StoredRuns m after → StoredRuns m (stored_run vs ++ after)
-  stored-cons vs {after} r s =
+  stored_cons : (vs : List ℕ) {after : List ℕ} → Run m vs → StoredRuns m after → StoredRuns m (stored_run vs ++ after)
+  stored_cons vs {after} r s =
       let e = runs_stored vs after in
       record {
         runs = λ us i. ⊎_elim (λ f. subst (Run m) (sym f) r) (s.runs us) (subst (In us) e i);
         splits = ap stored e ∙ ap (λ (l : List ℕ). stored_run vs ++ l) s.splits;
       }
 
-  stored-none : (bytes : List ℕ) → length bytes ≤ 0 → StoredRuns m bytes
-  stored-none [] l = record { runs = λ vs i. absurd i; splits = refl }
-  stored-none (b ∷ bytes) l = absurd (omega arith)
+  stored_none : (bytes : List ℕ) → length bytes ≤ 0 → StoredRuns m bytes
+  stored_none [] l = record { runs = λ vs i. absurd i; splits = refl }
+  stored_none (b ∷ bytes) l = absurd (omega arith)
 
-  passed-runs : (k : ℕ) (bytes : List ℕ) → length bytes ≤ k → None (Broken m bytes) → StoredRuns m bytes
-  passed-runs zero bytes l n = stored-none bytes l
-  passed-runs (suc k) bytes l n = ⊎_elim
+  passed_runs : (k : ℕ) (bytes : List ℕ) → length bytes ≤ k → None (Broken m bytes) → StoredRuns m bytes
+  passed_runs zero bytes l n = stored_none bytes l
+  passed_runs (suc k) bytes l n = ⊎_elim
       (λ x.
       let (vs, after, e) = x in
       let none : None (Broken m (stored_run vs ++ after)) = subst (λ a. None (Broken m a)) e n in
       subst (StoredRuns m) (sym e)
-      (stored-cons vs ((run-faultless m vs).1 (λ i f. none.nowhere 0 (fault-broken vs after f)))
-      (passed-runs k after (omega (arith, ap length e ∙ length-append (stored_run vs) after)) (record { nowhere = λ q x. none.nowhere _ (broken-behind vs x) }))))
-      (λ x. ⊎_elim (λ h. absurd (n.nowhere 0 (none-broken h x))) (stored-none bytes) (below_or 0 (length bytes)))
+      (stored_cons vs ((run_faultless m vs).1 (λ i f. none.nowhere 0 (fault_broken vs after f)))
+      (passed_runs k after (omega (arith, ap length e ∙ length-append (stored_run vs) after)) (record { nowhere = λ q x. none.nowhere _ (broken_behind vs x) }))))
+      (λ x. ⊎_elim (λ h. absurd (n.nowhere 0 (none_broken h x))) (stored_none bytes) (below_or 0 (length bytes)))
       (front_or bytes)
 
   -- the bytes that pass 19 are stored runs, and the other way round
-  pub stored-runs : (bytes : List ℕ) → None (Broken m bytes) ↔ StoredRuns m bytes
-  stored-runs bytes = (passed-runs (length bytes) bytes (omega arith), λ s. record { nowhere = subst (λ b. (p : ℕ) → Broken m b p → ⊥) s.splits (unbroken (runs_in bytes) s.runs) })
+  pub stored_runs : (bytes : List ℕ) → None (Broken m bytes) ↔ StoredRuns m bytes
+  stored_runs bytes = (passed_runs (length bytes) bytes (omega arith), λ s. record { nowhere = subst (λ b. (p : ℕ) → Broken m b p → ⊥) s.splits (unbroken (runs_in bytes) s.runs) })
 
 -- A search from run to run: the bytes from byte p on are broken where the whole is.
 pub record Past (m : Machine) (bytes : List ℕ) (p : ℕ) : Type 0 where
@@ -129,15 +129,15 @@ pub past_start : {m : Machine} {bytes : List ℕ} → Past m bytes 0
 past_start {m} {bytes} = record { within = omega arith; ahead = λ q b. (q, sym (zero-add q), b); back = λ r b. subst (Broken m bytes) (sym (zero-add r)) b }
 
 module _ {m : Machine} {bytes : List ℕ} {p : ℕ} (x : Past m bytes p) where
-  past-run : {vs : List ℕ} {e : ℕ} → Run m vs → StoredAt bytes p vs e → Past m bytes e
-  past-run {vs} {e} r s = record {
+  past_run : {vs : List ℕ} {e : ℕ} → Run m vs → StoredAt bytes p vs e → Past m bytes e
+  past_run {vs} {e} r s = record {
     within = s.within;
     ahead = λ q b.
         let (k, f, c) = x.ahead q b in
-        let (j, g, d) = broken-ahead m vs r (subst (λ l. Broken m l k) s.is c) in
+        let (j, g, d) = broken_ahead m vs r (subst (λ l. Broken m l k) s.is c) in
         (j, omega (arith, f, g, s.ends), d);
     back = λ k b.
-        let c = x.back (length (stored_run vs) + k) (subst (λ l. Broken m l (length (stored_run vs) + k)) (sym s.is) (broken-behind m vs b)) in
+        let c = x.back (length (stored_run vs) + k) (subst (λ l. Broken m l (length (stored_run vs) + k)) (sym s.is) (broken_behind m vs b)) in
         let n : p + (length (stored_run vs) + k) ≡ e + k = omega (arith, s.ends) in
         subst (Broken m bytes) n c;
   }
@@ -146,10 +146,10 @@ module _ {m : Machine} {bytes : List ℕ} {p : ℕ} (x : Past m bytes p) where
   past_more {e} t f = by (subst (Next m bytes p) f t)
     where
       by : Next m bytes p (At e) → (p < e) × Past m bytes e
-      by (run r s) = (omega (arith, s.ends), past-run r s)
+      by (run r s) = (omega (arith, s.ends), past_run r s)
 
-  pub past-found : {y : Found} → Next m bytes p y → y ≡ Nothing → Finds (Broken m bytes) (At p)
-  past-found t f = by (subst (Next m bytes p) f t)
+  pub past_found : {y : Found} → Next m bytes p y → y ≡ Nothing → Finds (Broken m bytes) (At p)
+  past_found t f = by (subst (Next m bytes p) f t)
     where
       by : Next m bytes p Nothing → Finds (Broken m bytes) (At p)
       by (none b) = at (record { here = subst (Broken m bytes) (add-zero p) (x.back 0 b); first = λ q l c. let (r, e, _) = x.ahead q c in omega arith })

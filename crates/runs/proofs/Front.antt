@@ -93,9 +93,9 @@ pub record First (m : Machine) (bytes : List ℕ) (p : ℕ) (vs : List ℕ) (e :
 
 module _ {m : Machine} {bytes : List ℕ} {p e : ℕ} (s : StoredRuns m (drop p bytes)) (l : p < length bytes) (f : e ≡ stored_end bytes p) where
   -- what is stored is as long as its count says
-  first-whole : (runs : List (List ℕ)) → stored runs ≡ drop p bytes → Whole bytes p e
-  first-whole [] g = absurd (omega (arith, length-drop p bytes, ap length g))
-  first-whole (vs ∷ later) g =
+  first_whole : (runs : List (List ℕ)) → stored runs ≡ drop p bytes → Whole bytes p e
+  first_whole [] g = absurd (omega (arith, length-drop p bytes, ap length g))
+  first_whole (vs ∷ later) g =
       let n = count_is bytes p vs (stored later) (sym g) in
       let long = sym (ap length g) ∙ length-append (stored_run vs) (stored later) in
       record { low_byte = omega (arith, low_is bytes p vs (stored later) (sym g)); ends = omega (arith, length-drop p bytes); within = omega arith }
@@ -103,7 +103,7 @@ module _ {m : Machine} {bytes : List ℕ} {p e : ℕ} (s : StoredRuns m (drop p 
   pub first_run : First m bytes p (take (e - (p + 2)) (drop (p + 2) bytes)) e
   first_run =
       let run = take (e - (p + 2)) (drop (p + 2) bytes) in
-      let at = whole_at (first-whole (runs_in (drop p bytes)) s.splits) in
+      let at = whole_at (first_whole (runs_in (drop p bytes)) s.splits) in
       let first = ap runs_in at.is ∙ runs_stored run (drop e bytes) in
       record {
         run = s.runs run (subst (In run) (sym first) (inl refl));

@@ -16,16 +16,16 @@ suc_pred : (i : ℕ) → suc i - 1 ≡ i
 suc_pred i = omega arith
 
 module _ {m : Machine} {run : List ℕ} {b : Bool} where
-  pub at-start : 0 < length run → Decides (Starts m (get_or run 0 0)) b → Decides (Fault m run 0) (not b)
-  at-start l d = decides_map (no_start l) clears (decides_not d)
+  pub at_start : 0 < length run → Decides (Starts m (get_or run 0 0)) b → Decides (Fault m run 0) (not b)
+  at_start l d = decides_map (no_start l) clears (decides_not d)
     where
       clears : Fault m run 0 → Starts m (get_or run 0 0) → ⊥
       clears (empty k) s = omega arith
       clears (no_start _ n) s = n s
 
-  pub at-change : (i : ℕ) → 1 ≤ i → i < length run → Decides (Changes m (get_or run (i - 1) 0) (get_or run i 0)) b → Decides (Fault m run i) (not b)
-  at-change zero h l d = absurd (omega arith)
-  at-change (suc i) h l d = decides_map (no_change l) clears (decides_not (rw suc_pred at d))
+  pub at_change : (i : ℕ) → 1 ≤ i → i < length run → Decides (Changes m (get_or run (i - 1) 0) (get_or run i 0)) b → Decides (Fault m run i) (not b)
+  at_change zero h l d = absurd (omega arith)
+  at_change (suc i) h l d = decides_map (no_change l) clears (decides_not (rw suc_pred at d))
     where
       clears : Fault m run (suc i) → Changes m (get_or run i 0) (get_or run (suc i) 0) → ⊥
       clears (no_change _ n) c = n c

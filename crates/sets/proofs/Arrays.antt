@@ -55,16 +55,16 @@ set_same f g x = record { array = x.array; each = λ v l. decides_map (f v) (g v
 
 module _ {P : ℕ → Type 0} where
   -- of what holds nowhere it is empty
-  pub set-none : (n m : ℕ) → ((v : ℕ) → v < m → P v → ⊥) → SetOf n m P (replicate n 0)
-  set-none n m none = record {
+  pub set_none : (n m : ℕ) → ((v : ℕ) → v < m → P v → ⊥) → SetOf n m P (replicate n 0)
+  set_none n m none = record {
     array = record { count = length-replicate n 0; small = λ i l. rw (zeros n i) (lit< tt) };
     each = λ v l. subst (Decides (P v)) (sym (member_none n v)) (it_fails (none v l));
     beyond = λ v l. member_none n v;
   }
 
   module _ {n s : ℕ} {a : List ℕ} (x : SetOf n s P a) where
-    pub set-in : {b : List ℕ} → s < 64 * n → P s → Words n b → ((v : ℕ) → v < 64 * n → member b v ≡ eqb v s || member a v) → SetOf n (s + 1) P b
-    set-in {b} h p w e = record {
+    pub set_in : {b : List ℕ} → s < 64 * n → P s → Words n b → ((v : ℕ) → v < 64 * n → member b v ≡ eqb v s || member a v) → SetOf n (s + 1) P b
+    set_in {b} h p w e = record {
       array = w;
       each = λ v l. ⊎_elim
           (λ q. subst (λ (u : ℕ). Decides (P u) (member b u)) (sym q) (subst (Decides (P s)) (sym (e s h ∙ ap (λ (t : Bool). t || member a s) (eq-eqb s s refl))) (it_holds p)))
@@ -77,8 +77,8 @@ module _ {P : ℕ → Type 0} where
     }
 
     -- of more settings it is the same, where nothing more holds
-    pub set-wide : (m : ℕ) → s ≤ m → ((v : ℕ) → s ≤ v → v < m → P v → ⊥) → SetOf n m P a
-    set-wide m h none = record {
+    pub set_wide : (m : ℕ) → s ≤ m → ((v : ℕ) → s ≤ v → v < m → P v → ⊥) → SetOf n m P a
+    set_wide m h none = record {
       array = x.array;
       each = λ v l. ⊎_elim
           (λ k. x.each v k)
@@ -88,4 +88,4 @@ module _ {P : ℕ → Type 0} where
     }
 
     pub set_out : (P s → ⊥) → SetOf n (s + 1) P a
-    set_out none = set-wide (s + 1) (omega arith) (λ v h k p. let e : v ≡ s = omega arith in none (subst P e p))
+    set_out none = set_wide (s + 1) (omega arith) (λ v h k p. let e : v ≡ s = omega arith in none (subst P e p))

@@ -69,8 +69,8 @@ module _ (s : List ℕ) (u : ℕ) (h : u < 64 * length s) where
   bit : 1 * 2 ^ (u % 64) % 2 ^ 64 ≡ 2 ^ (u % 64)
   bit = rw one-mul (mod-eq_of_lt (pow-lt {i = u % 64} {j = 64} (omega arith)))
 
-  pub member-set : (v : ℕ) → member (set s (u / 64) (bit_or (1 * 2 ^ (u % 64) % 2 ^ 64) (get_or s (u / 64) 0))) v ≡ eqb v u || member s v
-  member-set v = ⊎_elim here other (decides_or (decides_equal (v / 64) (u / 64)))
+  pub member_set : (v : ℕ) → member (set s (u / 64) (bit_or (1 * 2 ^ (u % 64) % 2 ^ 64) (get_or s (u / 64) 0))) v ≡ eqb v u || member s v
+  member_set v = ⊎_elim here other (decides_or (decides_equal (v / 64) (u / 64)))
     where
       word : ℕ
       word = bit_or (1 * 2 ^ (u % 64) % 2 ^ 64) (get_or s (u / 64) 0)

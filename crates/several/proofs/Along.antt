@@ -11,8 +11,8 @@ use Rattle.machine.specs.Lists.{In}
 use Rattle.machine.specs.Runs.{Machine, size, couple, move, Sound, Starts, Goes, visits_from, visits, Visitor}
 use Rattle.machine.specs.Shortest.{rests_from, rests}
 use Rattle.machine.specs.inner.Trails.{Steps, Trail}
-use Rattle.machine.proofs.Couples.{couple-setting, moves}
-use Rattle.machine.proofs.Trails.{last_of, back, along, AtLast, length-rests, length_back, back-rests, stepped, trail-run}
+use Rattle.machine.proofs.Couples.{couple_setting, moves}
+use Rattle.machine.proofs.Trails.{last_of, back, along, AtLast, length_rests, length_back, back_rests, stepped, trail_run}
 use Rattle.several.specs.Several.{multiple, multiples_from, multiples}
 use Rattle.several.specs.inner.Lightest.{multiples_along}
 
@@ -24,12 +24,12 @@ pub record Earlier (m : Machine) (c k a : ℕ) : Type 0 where
   pub lighter : multiples_along m c path ≤ a
 
 module _ (m : Machine) where
-  multiples-back : (ps : List ℕ) (c : ℕ) (vs : List ℕ) → multiples m (back m ps (c % size m ∷ vs)) ≡ multiples_along m c ps + multiples_from m (c % size m) vs
-  multiples-back [] c vs = omega arith
-  multiples-back (p ∷ ps) c vs = omega (arith, multiples-back ps p (c % size m ∷ vs))
+  multiples_back : (ps : List ℕ) (c : ℕ) (vs : List ℕ) → multiples m (back m ps (c % size m ∷ vs)) ≡ multiples_along m c ps + multiples_from m (c % size m) vs
+  multiples_back [] c vs = omega arith
+  multiples_back (p ∷ ps) c vs = omega (arith, multiples_back ps p (c % size m ∷ vs))
 
-  pub multiples-along : (ps : List ℕ) (c : ℕ) → multiples m (along m ps c) ≡ multiples_along m c ps
-  multiples-along ps c = omega (arith, multiples-back ps c [])
+  pub multiples_along_lem : (ps : List ℕ) (c : ℕ) → multiples m (along m ps c) ≡ multiples_along m c ps
+  multiples_along_lem ps c = omega (arith, multiples_back ps c [])
 
 module _ {m : Machine} (ok : Sound m) where
   now : (cs : List ℕ) (s v w : ℕ) (ws : List ℕ) (c : ℕ) → v < size m → Trail m c (couple m s v ∷ cs) → c % size m ≡ w
@@ -39,7 +39,7 @@ module _ {m : Machine} (ok : Sound m) where
     path = couple m s v ∷ cs;
     trail = t;
     shorter = omega arith;
-    lighter = rw (e, couple-setting m s h) (omega arith);
+    lighter = rw (e, couple_setting m s h) (omega arith);
   })
 
   forward : (cs : List ℕ) (s v : ℕ) (ws : List ℕ) → s < m.states → v < size m → move m s v ≡ s → Trail m (couple m s v) cs → Goes m v ws
@@ -57,48 +57,48 @@ module _ {m : Machine} (ok : Sound m) where
       here e = now cs s v w ws c k (t, step e) (stepped (step e))
 
       light : {x : ℕ} → x ≤ multiples_along m (couple m (move m s w) w) (couple m s v ∷ cs) + multiples_from m w ws → x ≤ multiples_along m (couple m s v) cs + multiples_from m v (w ∷ ws)
-      light {x} l = omega (arith, rw (couple-setting m s k, couple-setting m (move m s w) g.0.below) at l)
+      light {x} l = omega (arith, rw (couple_setting m s k, couple_setting m (move m s w) g.0.below) at l)
 
-  at-start : (v : ℕ) (vs : List ℕ) (c : ℕ) → Starts m v → c ≡ couple m m.initial v
+  at_start : (v : ℕ) (vs : List ℕ) (c : ℕ) → Starts m v → c ≡ couple m m.initial v
       → AtLast m c (rests m (v ∷ vs)) (last_of v vs) ⊎ Earlier m c (length vs) (multiples m (v ∷ vs))
-  at-start v [] c h e = inl (record { trail = (v, h, e); setting = ap (λ (y : ℕ). y % size m) e ∙ couple-setting m _ h.below })
-  at-start v (w ∷ vs) c h e = inr (record { path = []; trail = (v, h, e); shorter = omega arith; lighter = omega arith })
+  at_start v [] c h e = inl (record { trail = (v, h, e); setting = ap (λ (y : ℕ). y % size m) e ∙ couple_setting m _ h.below })
+  at_start v (w ∷ vs) c h e = inr (record { path = []; trail = (v, h, e); shorter = omega arith; lighter = omega arith })
 
-  visited-trail : (c v : ℕ) (vs : List ℕ) → Visitor m c (v ∷ vs) → AtLast m c (rests m (v ∷ vs)) (last_of v vs) ⊎ Earlier m c (length vs) (multiples m (v ∷ vs))
-  visited-trail c v vs x = ⊎_elim
-      (at-start v vs c x.run.0)
+  visited_trail : (c v : ℕ) (vs : List ℕ) → Visitor m c (v ∷ vs) → AtLast m c (rests m (v ∷ vs)) (last_of v vs) ⊎ Earlier m c (length vs) (multiples m (v ∷ vs))
+  visited_trail c v vs x = ⊎_elim
+      (at_start v vs c x.run.0)
       (λ i. ⊎_elim inl (λ y. inr (record { path = y.path; trail = y.trail; shorter = omega (arith, y.shorter); lighter = omega (arith, y.lighter) }))
       (forward [] m.initial v vs ok.begins x.run.0.below x.run.0.rests (v, x.run.0, refl) x.run.1 c i))
       x.sees
 
   -- a run is told by the trail to what it visits last
-  last-along : (c v : ℕ) (vs : List ℕ) → Visitor m c (v ∷ vs) → AtLast m c (rests m (v ∷ vs)) (last_of v vs) → v ∷ vs ≡ along m (rests m (v ∷ vs)) c
-  last-along c v vs x y =
-      sym (back-rests m [] m.initial v vs x.run.0.below x.run.1) ∙ ap (λ (w : ℕ). back m (rests m (v ∷ vs)) (w ∷ [])) (sym y.setting)
+  last_along : (c v : ℕ) (vs : List ℕ) → Visitor m c (v ∷ vs) → AtLast m c (rests m (v ∷ vs)) (last_of v vs) → v ∷ vs ≡ along m (rests m (v ∷ vs)) c
+  last_along c v vs x y =
+      sym (back_rests m [] m.initial v vs x.run.0.below x.run.1) ∙ ap (λ (w : ℕ). back m (rests m (v ∷ vs)) (w ∷ [])) (sym y.setting)
 
   -- a trail with no more changes than the run has, and no more multiple ones
-  pub some-trail : (c : ℕ) (vs : List ℕ) → Visitor m c vs → (ps : List ℕ) × Trail m c ps × (suc (length ps) ≤ length vs) × (multiples_along m c ps ≤ multiples m vs)
-  some-trail c [] x = absurd x.run
-  some-trail c (v ∷ vs) x = ⊎_elim
+  pub some_trail : (c : ℕ) (vs : List ℕ) → Visitor m c vs → (ps : List ℕ) × Trail m c ps × (suc (length ps) ≤ length vs) × (multiples_along m c ps ≤ multiples m vs)
+  some_trail c [] x = absurd x.run
+  some_trail c (v ∷ vs) x = ⊎_elim
       (λ y. (
         rests m (v ∷ vs),
         y.trail,
-        omega (arith, length-rests m [] m.initial v vs),
-        rw (← multiples-along m (rests m (v ∷ vs)) c, ← last-along c v vs x y) (le_refl _),
+        omega (arith, length_rests m [] m.initial v vs),
+        rw (← multiples_along_lem m (rests m (v ∷ vs)) c, ← last_along c v vs x y) (le_refl _),
       ))
       (λ y. (y.path, y.trail, omega (arith, y.shorter), y.lighter))
-      (visited-trail c v vs x)
+      (visited_trail c v vs x)
 
   -- a run that visits c, of which none with as few multiple changes is shorter
-  pub shortest-trail : (c : ℕ) (vs : List ℕ) → Visitor m c vs → ((ws : List ℕ) → Visitor m c ws → multiples m ws ≤ multiples m vs → length vs ≤ length ws)
+  pub shortest_trail : (c : ℕ) (vs : List ℕ) → Visitor m c vs → ((ws : List ℕ) → Visitor m c ws → multiples m ws ≤ multiples m vs → length vs ≤ length ws)
       → Trail m c (rests m vs) × (vs ≡ along m (rests m vs) c) × (length vs ≡ suc (length (rests m vs)))
-  shortest-trail c [] x few = absurd x.run
-  shortest-trail c (v ∷ vs) x few = ⊎_elim
-      (λ y. (y.trail, last-along c v vs x y, omega (arith, length-rests m [] m.initial v vs)))
+  shortest_trail c [] x few = absurd x.run
+  shortest_trail c (v ∷ vs) x few = ⊎_elim
+      (λ y. (y.trail, last_along c v vs x y, omega (arith, length_rests m [] m.initial v vs)))
       (λ y. absurd (omega (
         arith,
-        few _ (trail-run c y.path y.trail).0 (rw (multiples-along m y.path c) y.lighter),
+        few _ (trail_run c y.path y.trail).0 (rw (multiples_along_lem m y.path c) y.lighter),
         y.shorter,
         length_back m y.path (c % size m ∷ []),
       )))
-      (visited-trail c v vs x)
+      (visited_trail c v vs x)

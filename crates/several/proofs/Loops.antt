@@ -11,7 +11,7 @@ use Rattle.machine.specs.Lists.{In}
 use Rattle.machine.specs.Runs.{Machine, couples, Sound}
 use Rattle.machine.proofs.Order.{equal_or}
 use Rattle.machine.specs.inner.Trails.{Trail}
-use Rattle.machine.proofs.Exists.{trail-below}
+use Rattle.machine.proofs.Exists.{trail_below}
 use Rattle.machine.proofs.Small.{pigeons}
 use Rattle.several.specs.inner.Lightest.{multiples_along}
 
@@ -45,11 +45,11 @@ module _ (m : Machine) where
     distinct : Distinct (c ∷ path)
 
   -- back to the couple c along a trail that comes from it
-  cut-back : (c p : ℕ) (ps : List ℕ) → Trail m p ps → Distinct (p ∷ ps) → In c (p ∷ ps) → Cut c (length ps) (multiples_along m p ps)
-  cut-back c p [] t d i = ⊎_elim (λ e. subst (λ (x : ℕ). Cut x 0 0) (sym e) (record { path = []; trail = t; shorter = le_refl _; lighter = le_refl _; distinct = d })) absurd i
-  cut-back c p (q ∷ qs) t d i = ⊎_elim
+  cut_back : (c p : ℕ) (ps : List ℕ) → Trail m p ps → Distinct (p ∷ ps) → In c (p ∷ ps) → Cut c (length ps) (multiples_along m p ps)
+  cut_back c p [] t d i = ⊎_elim (λ e. subst (λ (x : ℕ). Cut x 0 0) (sym e) (record { path = []; trail = t; shorter = le_refl _; lighter = le_refl _; distinct = d })) absurd i
+  cut_back c p (q ∷ qs) t d i = ⊎_elim
       (λ e. subst (λ (x : ℕ). Cut x (length (q ∷ qs)) (multiples_along m p (q ∷ qs))) (sym e) (record { path = q ∷ qs; trail = t; shorter = le_refl _; lighter = le_refl _; distinct = d }))
-      (λ j. let x = cut-back c q qs t.0 d.1 j in
+      (λ j. let x = cut_back c q qs t.0 d.1 j in
       record { path = x.path; trail = x.trail; shorter = omega (arith, x.shorter); lighter = omega (arith, x.lighter); distinct = x.distinct })
       i
 
@@ -58,7 +58,7 @@ module _ (m : Machine) where
   cut c (p ∷ ps) t =
       let x = cut p ps t.0 in
       ⊎_elim
-      (λ i. let y = cut-back c p x.path x.trail x.distinct i in
+      (λ i. let y = cut_back c p x.path x.trail x.distinct i in
       record { path = y.path; trail = y.trail; shorter = omega (arith, x.shorter, y.shorter); lighter = omega (arith, x.lighter, y.lighter); distinct = y.distinct })
       (λ n. record { path = p ∷ x.path; trail = (x.trail, t.1); shorter = omega (arith, x.shorter); lighter = omega (arith, x.lighter); distinct = (n, x.distinct) })
       (in_or c (p ∷ x.path))
@@ -72,10 +72,10 @@ pub record Loopless (m : Machine) (c k a : ℕ) : Type 0 where
   pub few : length path < couples m
 
 module _ {m : Machine} (ok : Sound m) where
-  all-below : (c : ℕ) (ps : List ℕ) → Trail m c ps → (i : ℕ) → i < length (c ∷ ps) → get_or (c ∷ ps) i 0 < couples m
-  all-below c ps t zero l = trail-below ok c ps t
-  all-below c [] t (suc i) l = absurd (omega arith)
-  all-below c (p ∷ ps) t (suc i) l = all-below p ps t.0 i (omega arith)
+  all_below : (c : ℕ) (ps : List ℕ) → Trail m c ps → (i : ℕ) → i < length (c ∷ ps) → get_or (c ∷ ps) i 0 < couples m
+  all_below c ps t zero l = trail_below ok c ps t
+  all_below c [] t (suc i) l = absurd (omega arith)
+  all_below c (p ∷ ps) t (suc i) l = all_below p ps t.0 i (omega arith)
 
   pub loopless : (c : ℕ) (ps : List ℕ) → Trail m c ps → Loopless m c (length ps) (multiples_along m c ps)
   loopless c ps t =
@@ -85,5 +85,5 @@ module _ {m : Machine} (ok : Sound m) where
         trail = x.trail;
         shorter = x.shorter;
         lighter = x.lighter;
-        few = pigeons (couples m) (suc (length x.path)) (λ i. get_or (c ∷ x.path) i 0) (all-below c x.path x.trail) (distinct_at (c ∷ x.path) x.distinct);
+        few = pigeons (couples m) (suc (length x.path)) (λ i. get_or (c ∷ x.path) i 0) (all_below c x.path x.trail) (distinct_at (c ∷ x.path) x.distinct);
       }

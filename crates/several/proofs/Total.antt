@@ -19,14 +19,14 @@ use Rattle.machine.proofs.Order.{equal_or}
 use Rattle.machine.proofs.Couples.{moves}
 use Rattle.machine.proofs.Inputs.{none_differ}
 use Rattle.machine.proofs.Tests.{whole}
-use Rattle.machine.proofs.Trails.{along, trail-run}
+use Rattle.machine.proofs.Trails.{along, trail_run}
 use Rattle.machine.proofs.Exists.{search_below}
 use Rattle.several.specs.Several.{MultiRunTo}
 use Rattle.several.specs.inner.Lightest.{weight}
-use Rattle.several.proofs.Along.{some-trail}
+use Rattle.several.proofs.Along.{some_trail}
 use Rattle.several.proofs.Loops.{loopless}
-use Rattle.several.proofs.Weights.{weight_is, Hit, hit-or}
-use Rattle.several.proofs.Runs.{multi-exists}
+use Rattle.several.proofs.Weights.{weight_is, Hit, hit_or}
+use Rattle.several.proofs.Runs.{multi_exists}
 
 -- any setting may follow any other
 abbrev pub Free : Machine → Type 0
@@ -51,15 +51,15 @@ record Resting (m : Machine) (s : ℕ) : Type 0 where
 
 module _ {m : Machine} (ok : Sound m) where
   -- whether some run visits a couple is decided
-  pub marked-or : (c : ℕ) → Marked m c ⊎ (Marked m c → ⊥)
-  marked-or c = ⊎_elim
-      (λ f. let (ps, t, e) = f.found in inl (along m ps c, (trail-run c ps t).0))
+  pub marked_or : (c : ℕ) → Marked m c ⊎ (Marked m c → ⊥)
+  marked_or c = ⊎_elim
+      (λ f. let (ps, t, e) = f.found in inl (along m ps c, (trail_run c ps t).0))
       (λ none. inr (λ x. never none x.0 x.1))
-      (search_below (λ k. Hit m 0 k c) (λ k. hit-or m 0 ok k c) (couples m))
+      (search_below (λ k. Hit m 0 k c) (λ k. hit_or m 0 ok k c) (couples m))
     where
       never : ((k : ℕ) → k < couples m → Hit m 0 k c → ⊥) → (vs : List ℕ) → Visitor m c vs → ⊥
       never none vs x =
-          let (ps, t, h, l) = some-trail ok c vs x in
+          let (ps, t, h, l) = some_trail ok c vs x in
           let r = loopless ok c ps t in
           none (weight m 0 c r.path) (omega (arith, r.few, weight_is m 0 c r.path)) (r.path, r.trail, refl)
 
@@ -84,29 +84,29 @@ module _ {m : Machine} (ok : Sound m) where
         }))
         (equal_or x.setting v)
 
-    reached-marked : (v : ℕ) × Starts m v → (s v : ℕ) → v < size m → Reached (table_moves m.table (size m)) (size m) m.initial s → Marked m (couple m s v)
-    reached-marked begin s v h r =
+    reached_marked : (v : ℕ) × Starts m v → (s v : ℕ) → v < size m → Reached (table_moves m.table (size m)) (size m) m.initial s → Marked m (couple m s v)
+    reached_marked begin s v h r =
         let x = resting begin r in
         ⊎_elim
-        (λ f. (along m x.path (couple m s v), (trail-run (couple m s v) x.path (subst (λ (u : ℕ). Trail m (couple m s u) x.path) f x.trail)).0))
-        (λ n. (along m (couple m s x.setting ∷ x.path) (couple m s v), (trail-run (couple m s v) (couple m s x.setting ∷ x.path) (x.trail, change s x.setting v _ x.below h n x.rests (inl refl))).0))
+        (λ f. (along m x.path (couple m s v), (trail_run (couple m s v) x.path (subst (λ (u : ℕ). Trail m (couple m s u) x.path) f x.trail)).0))
+        (λ n. (along m (couple m s x.setting ∷ x.path) (couple m s v), (trail_run (couple m s v) (couple m s x.setting ∷ x.path) (x.trail, change s x.setting v _ x.below h n x.rests (inl refl))).0))
         (equal_or x.setting v)
 
     -- every couple is visited, and has its run
-    pub all-marked : AllReached m → SomeStart m → (c : ℕ) → c < couples m → Marked m c
-    all-marked all some c l = ⊎_elim
+    pub all_marked : AllReached m → SomeStart m → (c : ℕ) → c < couples m → Marked m c
+    all_marked all some c l = ⊎_elim
         (λ x. x)
         (λ n. absurd (some.nowhere 0 (
           refl,
           λ x. all.nowhere (c / size m) (record {
             state = (div-lt_iff_lt-mul (pow_pos m.inputs)).1 l;
-            never = λ r. n (subst (Marked m) (sym (whole m c)) (reached-marked x (c / size m) (c % size m) (mod-lt c (pow_pos m.inputs)) r));
+            never = λ r. n (subst (Marked m) (sym (whole m c)) (reached_marked x (c / size m) (c % size m) (mod-lt c (pow_pos m.inputs)) r));
           }),
         )))
-        (marked-or c)
+        (marked_or c)
 
-    pub all-run : AllReached m → SomeStart m → (c : ℕ) → c < couples m → (vs : List ℕ) × MultiRunTo m c vs
-    all-run all some c l = multi-exists ok c (all-marked all some c l)
+    pub all_run : AllReached m → SomeStart m → (c : ℕ) → c < couples m → (vs : List ℕ) × MultiRunTo m c vs
+    all_run all some c l = multi_exists ok c (all_marked all some c l)
 
 -- where nothing is ruled out, changes of at least one input are free
 pub several_free : (f : Frame) (table : List ℕ) → ((v : ℕ) → v < 2 ^ f.inputs → usable f v ≡ true) → Free (machine_by true f table)

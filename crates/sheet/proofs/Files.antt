@@ -57,16 +57,16 @@ module _ {file table₀ words₀ table₁ words₁ : List ℕ} {r : Contents} (u
         let x = (u.done e).frame in
         ap₂ ◌*◌ x.states (few (rw x.inputs (sized answers e).few_inputs) ∙ ap (λ (n : ℕ). 2 ^ n) x.inputs)
 
-    pub table-few : r.frame.states * z ≤ most_couples
-    table-few = omega (arith, are, couples_few (sized answers e))
+    pub table_few : r.frame.states * z ≤ most_couples
+    table_few = omega (arith, are, couples_few (sized answers e))
 
-    pub table-reach : r.frame.states * z ≤ length table₁
-    table-reach = omega (arith, table-few, (u.table.filled (inl e)).same_length)
+    pub table_reach : r.frame.states * z ≤ length table₁
+    table_reach = omega (arith, table_few, (u.table.filled (inl e)).same_length)
 
     -- the front of the table is the table of the file
     front : TableOf file (take (r.frame.states * z - 0) table₁)
     front = record {
-      whole = length-take-le (r.frame.states * z - 0) table₁ (omega (arith, table-reach)) ∙ omega (arith, are);
+      whole = length-take-le (r.frame.states * z - 0) table₁ (omega (arith, table_reach)) ∙ omega (arith, are);
       each = λ p h. subst (MoveAt file (sizes_of file) (settings (sizes_of file)) p) (sym (get_or-take (r.frame.states * z - 0) table₁ p 0 (omega (arith, are))))
           ((u.table.filled (inl e)).needed p h);
     }
@@ -74,5 +74,5 @@ module _ {file table₀ words₀ table₁ words₁ : List ℕ} {r : Contents} (u
     pub ready : {room : ℕ} → text_room ≤ room → Ready (machine_by true r.frame (take (r.frame.states * z - 0) table₁)) room
     ready h = planned succeeds (u.done e).frame front h
 
-    pub read-printed : {text : List ℕ} → PlanText (machine_by true r.frame (take (r.frame.states * z - 0) table₁)) text → SheetOf file text
-    read-printed x = read succeeds (u.done e).frame front x
+    pub read_printed : {text : List ℕ} → PlanText (machine_by true r.frame (take (r.frame.states * z - 0) table₁)) text → SheetOf file text
+    read_printed x = read succeeds (u.done e).frame front x

@@ -11,28 +11,28 @@ use Rattle.verdict.specs.Buffers.{Written}
 use Rattle.verdict.specs.declared.Answer.{Answer}
 use Rattle.machine.specs.Runs.{Machine, couples, Sound}
 use Rattle.machine.specs.Plans.{stored}
-use Rattle.machine.proofs.Plans.{plan-unique}
+use Rattle.machine.proofs.Plans.{plan_unique}
 use Rattle.several.specs.Lists.{MultiList, stored_list}
-use Rattle.several.proofs.Lists.{list-unique}
+use Rattle.several.proofs.Lists.{list_unique}
 use Rattle.several.proofs.Single.{singly_sound}
 use Rattle.plan.specs.Planning.{PlanBytes, ShortOf, WholeDone}
 use Rattle.plan.specs.Multi.{ListBytes}
 
 pub plan_once : {m : Machine} → Sound m → (w u : List ℕ) → PlanBytes m w → PlanBytes m u → w ≡ u
-plan_once ok w u (p, x, e) (q, y, f) = e ∙ ap stored (plan-unique ok x y) ∙ sym f
+plan_once ok w u (p, x, e) (q, y, f) = e ∙ ap stored (plan_unique ok x y) ∙ sym f
 
 pub list_once : {m : Machine} → Sound m → (w u : List ℕ) → ListBytes m w → ListBytes m u → w ≡ u
 list_once {m} ok w u (p, l, x, y, e) (q, k, z, v, f) =
-    let same = plan-unique (singly_sound ok) z x in
-    e ∙ ap (stored_list m) (list-unique ok y (subst (λ (r : List (List ℕ)). MultiList m r (couples m) k) same v)) ∙ sym f
+    let same = plan_unique (singly_sound ok) z x in
+    e ∙ ap (stored_list m) (list_unique ok y (subst (λ (r : List (List ℕ)). MultiList m r (couples m) k) same v)) ∙ sym f
 
 module _ (Is : List ℕ → Type 0) (one : (w u : List ℕ) → Is w → Is u → w ≡ u) {room : ℕ} where
   -- bytes that fit are not refused, and those that do not fit are refused in one way
   pub short_none : {p : ℕ} {w : List ℕ} → Is w → length w ≤ room → ShortOf Is room p → ⊥
   short_none {w = w} i h (u, j, s) = let l = s.1 in omega (arith, ap length (one w u i j))
 
-  pub short-once : {p q : ℕ} → ShortOf Is room p → ShortOf Is room q → p ≡ q
-  short-once (w, i, s) (u, j, t) = s.0 ∙ ap length (one w u i j) ∙ sym t.0
+  pub short_once : {p q : ℕ} → ShortOf Is room p → ShortOf Is room q → p ≡ q
+  short_once (w, i, s) (u, j, t) = s.0 ∙ ap length (one w u i j) ∙ sym t.0
 
   module _ {a : Answer} (v : Judged (check 16 (ShortOf Is room) ∷ []) (WholeDone Is) a) where
     pub sixteen : (a.number ≡ 0 → ⊥) → (a.number ≡ 16) × ShortOf Is room a.place

@@ -14,12 +14,12 @@ use Rattle.machine.specs.Runs.{machine_by}
 use Rattle.machine.specs.declared.Frame.{Frame}
 use Rattle.specification.specs.Records.{sizes_of}
 use Rattle.specification.specs.Reading.{CharacterFor}
-use Rattle.specification.proofs.Accepted.{table-once}
+use Rattle.specification.proofs.Accepted.{table_once}
 use Rattle.specification.proofs.Conditions.{character_for_only}
 use Rattle.specification.proofs.Framing.{frame_only}
 use Rattle.sheet.specs.Printed.{PlanText, SheetOf, refused, read, Prints}
 use Rattle.sheet.proofs.Files.{planned}
-use Rattle.sheet.proofs.Plans.{text-once}
+use Rattle.sheet.proofs.Plans.{text_once}
 
 pub sheet_once : {file t u : List ℕ} → SheetOf file t → SheetOf file u → t ≡ u
 sheet_once {file} (refused v x n) (refused {k = k} w y o) =
@@ -28,8 +28,8 @@ sheet_once {file} (refused v x n) (refused {k = k} w y o) =
 sheet_once (refused v x n) (read w j u y) = absurd (n (ap (λ (a : Answer). a.number) (judged_unique v w)))
 sheet_once (read v i t x) (refused w y o) = absurd (o (ap (λ (a : Answer). a.number) (judged_unique w v)))
 sheet_once {file} (read v i t x) (read {text = text} w j u y) =
-    text-once (planned v i t (le_refl _)).checked.sound x
-    (subst₂ (λ (f : Frame) table. PlanText (machine_by true f table) text) (frame_only j i) (table-once v refl u t) y)
+    text_once (planned v i t (le_refl _)).checked.sound x
+    (subst₂ (λ (f : Frame) table. PlanText (machine_by true f table) text) (frame_only j i) (table_once v refl u t) y)
 
 pub only : {file : List ℕ} {n k : ℕ} {before a b : List ℕ} → Prints (SheetOf file) n before a → Prints (SheetOf file) k before b → (n ≡ k) × (a ≡ b)
 only {n = n} {k = k} {before} x y =

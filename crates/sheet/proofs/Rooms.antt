@@ -12,13 +12,13 @@ use Rattle.machine.specs.Runs.{Machine, couples, Sound, RanksOf}
 use Rattle.machine.specs.Plans.{Plan, empty, pass, add, stored_run, stored}
 use Rattle.machine.proofs.Couples.{settings_bound, couples_bound}
 use Rattle.machine.proofs.Members.{in_either}
-use Rattle.machine.proofs.Small.{rank-small, run-to-small}
+use Rattle.machine.proofs.Small.{rank_small, run_to_small}
 use Rattle.machine.proofs.Stored.{run_below}
 use Rattle.machine.proofs.Plans.{plan_runs}
 use Rattle.several.specs.Several.{singly, multiples}
 use Rattle.several.specs.Lists.{stored_multi, stored_list}
 use Rattle.several.proofs.Lists.{list_to_lem}
-use Rattle.several.proofs.Runs.{multi-small}
+use Rattle.several.proofs.Runs.{multi_small}
 use Rattle.several.proofs.Single.{singly_sound}
 use Rattle.plan.specs.Planning.{PlanBytes}
 use Rattle.plan.specs.Multi.{ListBytes}
@@ -62,31 +62,31 @@ run_short_lem : {m : Machine} → Sound m → {t : ℕ} {plan : List (List ℕ)}
 run_short_lem ok empty vs i = absurd i
 run_short_lem ok (pass x f) vs i = run_short_lem ok x vs i
 run_short_lem {m} ok (add {plan = plan} {vs = ws} x n r) vs i =
-    ⊎_elim (λ j. run_short_lem ok x vs j) (⊎_elim (λ e. subst (λ l. length l ≤ couples m) (sym e) (run-to-small ok r)) absurd) (in_either vs plan (ws ∷ []) i)
+    ⊎_elim (λ j. run_short_lem ok x vs j) (⊎_elim (λ e. subst (λ l. length l ≤ couples m) (sym e) (run_to_small ok r)) absurd) (in_either vs plan (ws ∷ []) i)
 
 module _ {m : Machine} (ok : Sound m) (few_inputs : m.inputs ≤ most_inputs) (few_states : m.states ≤ most_states) where
   few : couples m ≤ most_couples
   few = couples_bound _ _ few_states (settings_bound few_inputs)
 
-  plan-bytes : {bytes : List ℕ} → PlanBytes (singly m) bytes → Bytes bytes
-  plan-bytes (plan, x, e) = subst Bytes (sym e) (stored_bytes plan (λ vs i.
+  plan_bytes : {bytes : List ℕ} → PlanBytes (singly m) bytes → Bytes bytes
+  plan_bytes (plan, x, e) = subst Bytes (sym e) (stored_bytes plan (λ vs i.
       (omega (arith, run_short_lem (singly_sound ok) x vs i, few), λ w j. omega (arith, run_below (singly m) vs (plan_runs x vs i) w j, settings_bound few_inputs))))
 
-  list-bytes : {bytes : List ℕ} → ListBytes m bytes → Bytes bytes
-  list-bytes (plan, list, x, y, e) = subst Bytes (sym e) (listed_bytes m list (λ vs i.
+  list_bytes : {bytes : List ℕ} → ListBytes m bytes → Bytes bytes
+  list_bytes (plan, list, x, y, e) = subst Bytes (sym e) (listed_bytes m list (λ vs i.
       let (c, n, z) = list_to_lem y vs i in
-      let (short, fewer) = multi-small ok z in
+      let (short, fewer) = multi_small ok z in
       (fewer, omega (arith, few), λ w j. omega (arith, run_below m vs z.visitor.run w j, settings_bound few_inputs))))
 
-  pub sheet-fits : {ranks bytes list : List ℕ} → RanksOf (singly m) ranks → PlanBytes (singly m) bytes → length bytes ≤ plan_room → ListBytes m list → length list ≤ list_room
+  pub sheet_fits : {ranks bytes list : List ℕ} → RanksOf (singly m) ranks → PlanBytes (singly m) bytes → length bytes ≤ plan_room → ListBytes m list → length list ≤ list_room
       → length (sheet_text m.inputs m.states ranks bytes list) ≤ text_room
-  sheet-fits {ranks} {bytes} {list} r b l d k =
-      let low = ranks_low (couples m) ranks (λ c h. ⊎_elim (λ x. inl (rank-small (singly_sound ok) x.1)) (λ x. inr x.0) (r.each c (omega (arith, r.whole)))) in
+  sheet_fits {ranks} {bytes} {list} r b l d k =
+      let low = ranks_low (couples m) ranks (λ c h. ⊎_elim (λ x. inl (rank_small (singly_sound ok) x.1)) (λ x. inr x.0) (r.each c (omega (arith, r.whole)))) in
       omega (
         arith,
         few,
         r.whole,
-        sheet_room m.inputs m.states ranks bytes list (omega arith) (omega arith) (omega (arith, few, r.whole)) (omega (arith, r.whole)) (omega arith) (plan-bytes b) (list-bytes d),
+        sheet_room m.inputs m.states ranks bytes list (omega arith) (omega arith) (omega (arith, few, r.whole)) (omega (arith, r.whole)) (omega arith) (plan_bytes b) (list_bytes d),
       )
 
 pub refusal_fits : (number place character : ℕ) → number < 2 ^ 64 → place < 2 ^ 64 → character < 2 ^ 64 → length (refusal_text number place character) ≤ text_room

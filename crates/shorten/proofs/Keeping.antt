@@ -19,7 +19,7 @@ use Rattle.shorten.specs.Shortening.Shortens.{ends, out as goes-out, stays as go
 use Rattle.shorten.specs.inner.Passing.{noted, Reach, Few, Tells, Stay, Turn, Kept}
 use Rattle.shorten.specs.inner.Passing.Stay.{goes}
 use Rattle.shorten.specs.inner.Passing.Turn.{out, stays}
-use Rattle.shorten.proofs.Marks.{length_noted, few_noted, tells-out, tells-stays, first-told}
+use Rattle.shorten.proofs.Marks.{length_noted, few_noted, tells_out, tells_stays, first_told}
 
 -- a turn, by what is said of whether the run stays
 pub turn_by : {m : Machine} {vs : List ℕ} {p e q : ℕ} {plan marks : List ℕ} {b : Bool} {marks' : List ℕ} → Stay m vs e (length plan) marks b marks'
@@ -57,8 +57,8 @@ module _ {m : Machine} {plan₀ : List ℕ} {n p q : ℕ} {plan marks : List ℕ
   front : take q plan ≡ stored k.kept
   front = ap (take q) k.is ∙ take_at (stored k.kept) (drop q plan₀) q (sym k.count)
 
-  pub keeping-ahead : StoredRuns m (drop p plan)
-  keeping-ahead = subst (StoredRuns m) (sym (behind p k.low)) k.ahead
+  pub keeping_ahead : StoredRuns m (drop p plan)
+  keeping_ahead = subst (StoredRuns m) (sym (behind p k.low)) k.ahead
 
   module _ {vs : List ℕ} {e : ℕ} (f : First m plan p vs e) where
     -- the first run ahead is that of the plan lent
@@ -83,8 +83,8 @@ module _ {m : Machine} {plan₀ : List ℕ} {n p q : ℕ} {plan marks : List ℕ
     bytes = ap (take (e - p)) f.at.is ∙ take_at (stored_run vs) (drop e plan) (e - p) (omega (arith, f.at.ends))
 
     -- its turn: it goes out, or stays
-    pub keeping-turn : Sound m → {r : ℕ} {plan' marks' : List ℕ} → Turn m vs p e q plan marks r plan' marks' → Keeping m plan₀ n e (q + r) plan' marks'
-    keeping-turn ok (out a) = record {
+    pub keeping_turn : Sound m → {r : ℕ} {plan' marks' : List ℕ} → Turn m vs p e q plan marks r plan' marks' → Keeping m plan₀ n e (q + r) plan' marks'
+    keeping_turn ok (out a) = record {
       kept = k.kept;
       within = lent.at.within;
       low = omega (arith, k.low, f.at.ends);
@@ -94,10 +94,10 @@ module _ {m : Machine} {plan₀ : List ℕ} {n p q : ℕ} {plan marks : List ℕ
       room = k.room;
       few = k.few;
       ahead = lent.behind;
-      tells = subst (λ j. Tells m j k.kept (runs_in (drop e plan₀)) marks) (sym f.at.ends) (tells-out m vs told);
-      goes = λ left x. goes_with (goes-out ((first-told m vs told ok f.run).0 (subst (λ j. Reach (visits m vs) j marks) f.at.ends a)) x);
+      tells = subst (λ j. Tells m j k.kept (runs_in (drop e plan₀)) marks) (sym f.at.ends) (tells_out m vs told);
+      goes = λ left x. goes_with (goes-out ((first_told m vs told ok f.run).0 (subst (λ j. Reach (visits m vs) j marks) f.at.ends a)) x);
     }
-    keeping-turn ok (stays more) = record {
+    keeping_turn ok (stays more) = record {
       kept = k.kept ++ (vs ∷ []);
       within = lent.at.within;
       low = omega (arith, k.low, f.at.ends);
@@ -107,17 +107,17 @@ module _ {m : Machine} {plan₀ : List ℕ} {n p q : ℕ} {plan marks : List ℕ
       room = k.room;
       few = few_noted (visits m vs) k.few (omega (arith, same_length));
       ahead = lent.behind;
-      tells = subst (λ j. Tells m j (k.kept ++ (vs ∷ [])) (runs_in (drop e plan₀)) (noted (visits m vs) (length plan) marks)) (sym f.at.ends) (tells-stays m vs told (length plan) (rw k.as_long k.room) fits);
+      tells = subst (λ j. Tells m j (k.kept ++ (vs ∷ [])) (runs_in (drop e plan₀)) (noted (visits m vs) (length plan) marks)) (sym f.at.ends) (tells_stays m vs told (length plan) (rw k.as_long k.room) fits);
       goes = λ left x. subst (Shortens m [] (runs_in plan₀)) (sym (append_assoc k.kept (vs ∷ []) left))
-          (goes_with (goes_on (λ s. more (subst (λ j. Reach (visits m vs) j marks) (sym f.at.ends) ((first-told m vs told ok f.run).1 s))) x));
+          (goes_with (goes_on (λ s. more (subst (λ j. Reach (visits m vs) j marks) (sym f.at.ends) ((first_told m vs told ok f.run).1 s))) x));
     }
       where
         fits : p + length (stored (vs ∷ runs_in (drop e plan₀))) ≤ length plan
         fits = omega (arith, length-append (stored_run vs) (stored (runs_in (drop e plan₀))), ap length lent.behind.splits, length-drop e plan₀, f.at.ends, f.at.within, same_length)
 
   -- all bytes are gone through
-  pub keeping-end : length plan ≤ p → StoredRuns m plan₀ → Kept m plan₀ q plan
-  keeping-end l s = record {
+  pub keeping_end : length plan ≤ p → StoredRuns m plan₀ → Kept m plan₀ q plan
+  keeping_end l s = record {
     bytes = stored k.kept;
     shortened = record {
       runs = runs_in plan₀;

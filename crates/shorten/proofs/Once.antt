@@ -12,12 +12,12 @@ use Rattle.machine.specs.Runs.{Machine}
 use Rattle.machine.specs.Plans.{stored}
 use Rattle.machine.proofs.Stored.{stored_once}
 use Rattle.shorten.specs.Shortening.{Shortens, Shortened, ShortenDone, ShortenedAs}
-use Rattle.shorten.proofs.Pass.{shortens-once}
+use Rattle.shorten.proofs.Pass.{shortens_once}
 
 shortened_once : {m : Machine} {bytes w u : List ℕ} → Shortened m bytes w → Shortened m bytes u → w ≡ u
 shortened_once {m} x y =
     let e : y.runs ≡ x.runs = stored_once y.runs x.runs (sym y.splits ∙ x.splits) in
-    x.stores ∙ ap stored (shortens-once x.shortens (subst (λ l. Shortens m [] l y.left) e y.shortens)) ∙ sym y.stores
+    x.stores ∙ ap stored (shortens_once x.shortens (subst (λ l. Shortens m [] l y.left) e y.shortens)) ∙ sym y.stores
 
 done_only : {m : Machine} {bytes : List ℕ} (a b : Answer) → ShortenDone m bytes a → ShortenDone m bytes b → a ≡ b
 done_only a b p q = same_answer a b (p.number ∙ sym q.number) (p.place ∙ ap length (shortened_once p.shortened q.shortened) ∙ sym q.place)

@@ -6,7 +6,7 @@ use Prim.Native.Nat.{ℕ}
 use Rattle.verdict.specs.Checks.{check, Passed, Judged}
 use Rattle.verdict.specs.declared.Answer.{Answer}
 use Rattle.verdict.proofs.Order.{judged_on, judged_stop, judged_passes, judged_within}
-use Rattle.verdict.proofs.Fills.{written-nothing, written-done}
+use Rattle.verdict.proofs.Fills.{written_nothing, written_done}
 use Rattle.machine.specs.Limits.{most_couples}
 use Rattle.machine.specs.Runs.{Machine}
 use Rattle.machine.proofs.Sizes.{couples_few}
@@ -14,14 +14,14 @@ use Rattle.tables.specs.Tables.{table_checks}
 use Rattle.tables.specs.inner.Fits.{Checked}
 use Rattle.tables.proofs.Gate.{checked}
 use Rattle.runs.specs.Stored.{StoredRuns, Broken, broken_checks}
-use Rattle.runs.proofs.Broken.{stored-runs}
+use Rattle.runs.proofs.Broken.{stored_runs}
 use Rattle.shorten.specs.Shortening.{shorten_checks, ShortenedAs}
 use Rattle.shorten.specs.inner.Passing.{Ground, Kept}
 
 module _ (m : Machine) (bytes : List ℕ) where
   -- a refusal writes nothing
   refused : {a : Answer} → Judged (shorten_checks m bytes) Passed a → (a.number ≡ 0 → ⊥) → ShortenedAs m bytes a bytes
-  refused v n = record { verdict = judged_stop [] v n; plan = written-nothing n }
+  refused v n = record { verdict = judged_stop [] v n; plan = written_nothing n }
 
   module _ {a : Answer} (v : Judged (table_checks m) Passed a) where
     pub no_table : (a.number ≡ 0 → ⊥) → ShortenedAs m bytes a bytes
@@ -37,8 +37,8 @@ module _ (m : Machine) (bytes : List ℕ) where
       all : Judged (shorten_checks m bytes) Passed b
       all = judged_on 10 v refl e broken
 
-      pub no-runs : (b.number ≡ 0 → ⊥) → ShortenedAs m bytes b bytes
-      no-runs n = refused all n
+      pub no_runs : (b.number ≡ 0 → ⊥) → ShortenedAs m bytes b bytes
+      no_runs n = refused all n
 
       -- so many marks are enough
       pub ground : Ground m most_couples
@@ -46,10 +46,10 @@ module _ (m : Machine) (bytes : List ℕ) where
 
       module _ (f : b.number ≡ 0) where
         pub split : StoredRuns m bytes
-        split = (stored-runs m bytes).0 (judged_passes 19 broken refl f).0
+        split = (stored_runs m bytes).0 (judged_passes 19 broken refl f).0
 
         pub done : {k : ℕ} {plan : List ℕ} → Kept m bytes k plan → ShortenedAs m bytes (record { number = 0; place = k }) plan
         done x = record {
           verdict = judged_on 19 all refl f (record { verdict = record { number = refl; kept = x.bytes; shortened = x.shortened; place = x.count } });
-          plan = written-done refl x.front x.shortened;
+          plan = written_done refl x.front x.shortened;
         }

@@ -18,11 +18,11 @@ front_in kept p q f vs i = ⊎_elim (in_front vs kept q) (λ j. in_back vs kept 
 
 module _ {m : Machine} where
   -- more runs visit more
-  pub visited-by : {c : ℕ} (p q : List (List ℕ)) → ((vs : List ℕ) → In vs p → In vs q) → VisitedBy m c p → VisitedBy m c q
-  visited-by p q f (vs, i, j) = (vs, f vs i, j)
+  pub visited_by : {c : ℕ} (p q : List (List ℕ)) → ((vs : List ℕ) → In vs p → In vs q) → VisitedBy m c p → VisitedBy m c q
+  visited_by p q f (vs, i, j) = (vs, f vs i, j)
 
-  superfluous-by : {vs : List ℕ} {p q : List (List ℕ)} → ((ws : List ℕ) → In ws p → In ws q) → Superfluous m vs p → Superfluous m vs q
-  superfluous-by {p = p} {q} f s = record { elsewhere = λ c i. visited-by p q f (s.elsewhere c i) }
+  superfluous_by : {vs : List ℕ} {p q : List (List ℕ)} → ((ws : List ℕ) → In ws p → In ws q) → Superfluous m vs p → Superfluous m vs q
+  superfluous_by {p = p} {q} f s = record { elsewhere = λ c i. visited_by p q f (s.elsewhere c i) }
 
   -- what stays was there
   pub left_in : {kept runs left : List (List ℕ)} → Shortens m kept runs left → (vs : List ℕ) → In vs left → In vs runs
@@ -43,26 +43,26 @@ module _ {m : Machine} where
       subst (VisitedBy m c) (append_assoc kept (vs ∷ []) left) (keeps x c (subst (VisitedBy m c) (sym (append_assoc kept (vs ∷ []) later)) v))
 
   -- the runs left visit the same couples
-  pub same-visits : {runs left : List (List ℕ)} → Shortens m [] runs left → (c : ℕ) → VisitedBy m c left ↔ VisitedBy m c runs
-  same-visits {runs} {left} x c = (visited-by left runs (left_in x), keeps x c)
+  pub same_visits : {runs left : List (List ℕ)} → Shortens m [] runs left → (c : ℕ) → VisitedBy m c left ↔ VisitedBy m c runs
+  same_visits {runs} {left} x c = (visited_by left runs (left_in x), keeps x c)
 
   needed : {kept runs left : List (List ℕ)} → Shortens m kept runs left → (before after : List (List ℕ)) (vs : List ℕ) → left ≡ before ++ (vs ∷ after) → Superfluous m vs (kept ++ (before ++ after)) → ⊥
   needed ends before after vs e f = omega (arith, ap length e ∙ length-append before (vs ∷ after))
   needed (out s x) before after vs e f = needed x before after vs e f
   needed {kept} (stays {later = later} {left} n x) [] after vs e f =
-      n (superfluous-by (front_in kept left later (left_in x)) (subst (λ us. Superfluous m us (kept ++ left)) (sym (head-eq_of_cons-eq e)) (subst (λ l. Superfluous m vs (kept ++ l)) (sym (tail-eq_of_cons-eq e)) f)))
+      n (superfluous_by (front_in kept left later (left_in x)) (subst (λ us. Superfluous m us (kept ++ left)) (sym (head-eq_of_cons-eq e)) (subst (λ l. Superfluous m vs (kept ++ l)) (sym (tail-eq_of_cons-eq e)) f)))
   needed {kept} (stays {vs = ws} n x) (us ∷ before) after vs e f =
       needed x before after vs (tail-eq_of_cons-eq e)
       (subst (Superfluous m vs) (sym (append_assoc kept (ws ∷ []) (before ++ after))) (subst (λ l. Superfluous m vs (kept ++ (l ∷ before ++ after))) (sym (head-eq_of_cons-eq e)) f))
 
   -- no single run left is superfluous
-  pub none-superfluous : {runs left : List (List ℕ)} → Shortens m [] runs left → NoneSuperfluous m left
-  none-superfluous x before after vs e f = needed x before after vs e f
+  pub none_superfluous : {runs left : List (List ℕ)} → Shortens m [] runs left → NoneSuperfluous m left
+  none_superfluous x before after vs e f = needed x before after vs e f
 
   -- the runs left are one list
-  pub shortens-once : {kept runs left other : List (List ℕ)} → Shortens m kept runs left → Shortens m kept runs other → left ≡ other
-  shortens-once ends ends = refl
-  shortens-once (out s x) (out t y) = shortens-once x y
-  shortens-once (out s x) (stays n y) = absurd (n s)
-  shortens-once (stays n x) (out s y) = absurd (n s)
-  shortens-once (stays {vs = vs} n x) (stays k y) = ap (λ (l : List (List ℕ)). vs ∷ l) (shortens-once x y)
+  pub shortens_once : {kept runs left other : List (List ℕ)} → Shortens m kept runs left → Shortens m kept runs other → left ≡ other
+  shortens_once ends ends = refl
+  shortens_once (out s x) (out t y) = shortens_once x y
+  shortens_once (out s x) (stays n y) = absurd (n s)
+  shortens_once (stays n x) (out s y) = absurd (n s)
+  shortens_once (stays {vs = vs} n x) (stays k y) = ap (λ (l : List (List ℕ)). vs ∷ l) (shortens_once x y)

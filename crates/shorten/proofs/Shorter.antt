@@ -11,7 +11,7 @@ use Rattle.machine.specs.Runs.{Machine}
 use Rattle.machine.specs.Plans.{VisitedBy, stored, runs_in}
 use Rattle.machine.proofs.Stored.{split_stored}
 use Rattle.shorten.specs.Shortening.{NoneSuperfluous, Shortened, ShortenedAs}
-use Rattle.shorten.proofs.Pass.{left_in, same-visits, none-superfluous}
+use Rattle.shorten.proofs.Pass.{left_in, same_visits, none_superfluous}
 use Rattle.shorten.proofs.Once.{held}
 
 module _ {m : Machine} {plan₀ plan₁ : List ℕ} {a : Answer} (p : ShortenedAs m plan₀ a plan₁) (e : a.number ≡ 0) where
@@ -25,15 +25,15 @@ module _ {m : Machine} {plan₀ plan₁ : List ℕ} {a : Answer} (p : ShortenedA
   left = ap runs_in short.stores ∙ split_stored short.left
 
   -- the bytes left are stored runs
-  pub left-stored : stored (runs_in (take a.place plan₁)) ≡ take a.place plan₁
-  left-stored = ap stored left ∙ sym short.stores
+  pub left_stored : stored (runs_in (take a.place plan₁)) ≡ take a.place plan₁
+  left_stored = ap stored left ∙ sym short.stores
 
   -- of the plan lent
-  pub left-lent : (vs : List ℕ) → In vs (runs_in (take a.place plan₁)) → In vs (runs_in plan₀)
-  left-lent vs i = subst (In vs) (sym lent) (left_in short.shortens vs (subst (In vs) left i))
+  pub left_lent : (vs : List ℕ) → In vs (runs_in (take a.place plan₁)) → In vs (runs_in plan₀)
+  left_lent vs i = subst (In vs) (sym lent) (left_in short.shortens vs (subst (In vs) left i))
 
-  pub same-couples : (c : ℕ) → VisitedBy m c (runs_in (take a.place plan₁)) ↔ VisitedBy m c (runs_in plan₀)
-  same-couples c = subst₂ (λ (x y : List (List ℕ)). VisitedBy m c x ↔ VisitedBy m c y) (sym left) (sym lent) (same-visits short.shortens c)
+  pub same_couples : (c : ℕ) → VisitedBy m c (runs_in (take a.place plan₁)) ↔ VisitedBy m c (runs_in plan₀)
+  same_couples c = subst₂ (λ (x y : List (List ℕ)). VisitedBy m c x ↔ VisitedBy m c y) (sym left) (sym lent) (same_visits short.shortens c)
 
-  pub no-run-over : NoneSuperfluous m (runs_in (take a.place plan₁))
-  no-run-over = subst (NoneSuperfluous m) (sym left) (none-superfluous short.shortens)
+  pub no_run_over : NoneSuperfluous m (runs_in (take a.place plan₁))
+  no_run_over = subst (NoneSuperfluous m) (sym left) (none_superfluous short.shortens)

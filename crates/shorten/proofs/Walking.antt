@@ -20,11 +20,11 @@ use Rattle.shorten.specs.declared.Place.{Place}
 
 -- what a change visits has a mark, and it leads to a state
 module _ {m : Machine} {k s w : ℕ} {r : Visited} (g : Ground m k) (h : s < m.states) (l : w < size m) (x : Changed m s w r) where
-  pub next-state : r.state < m.states
-  next-state = rw x.state (moves g.checked.sound s w h l)
+  pub next_state : r.state < m.states
+  next_state = rw x.state (moves g.checked.sound s w h l)
 
-  pub entered-inside : r.entered < k
-  entered-inside = omega (arith, x.entered, digits_lt h l, g.room)
+  pub entered_inside : r.entered < k
+  entered_inside = omega (arith, x.entered, digits_lt h l, g.room)
 
   pub moved_inside : r.moved < k
   moved_inside = omega (arith, x.moved, digits_lt (moves g.checked.sound s w h l) l, g.room)
@@ -52,17 +52,17 @@ pub marking_start : {m : Machine} {s : ℕ} {run : List ℕ} {x : ℕ} {marks : 
 marking_start h = record { within = omega arith; state = h; as_long = refl; same = refl }
 
 module _ {m : Machine} {s₀ : ℕ} {run : List ℕ} {x : ℕ} {marks₀ marks : List ℕ} {s i : ℕ} (k : Marking m s₀ run x marks₀ marks s i) where
-  pub marking-more : {w : ℕ} {r : Visited} → i < length run → w ≡ get_or run i 0 → r.state < m.states → Changed m s w r
+  pub marking_more : {w : ℕ} {r : Visited} → i < length run → w ≡ get_or run i 0 → r.state < m.states → Changed m s w r
       → Marking m s₀ run x marks₀ (set (set marks r.entered x) r.moved x) r.state (i + 1)
-  marking-more h e l c = record {
+  marking_more h e l c = record {
     within = omega arith;
     state = l;
     as_long = simp length-set k.as_long;
     same = sym (ap (λ (cs : List ℕ). noted cs x marks) (ahead run h e c)) ∙ k.same;
   }
 
-  pub marking-end : i ≡ length run → marks ≡ noted (visits_from m s₀ run) x marks₀
-  marking-end e = rw (e, drop-length) at k.same
+  pub marking_end : i ≡ length run → marks ≡ noted (visits_from m s₀ run) x marks₀
+  marking_end e = rw (e, drop-length) at k.same
 
 -- marks of two lists of couples
 reach_both : {cs ds : List ℕ} {x : ℕ} {marks : List ℕ} → Reach cs x marks → Reach ds x marks → Reach (cs ++ ds) x marks
@@ -84,26 +84,26 @@ reaching_start h = record { within = omega arith; state = h; front = []; walked 
 
 module _ {m : Machine} {s₀ : ℕ} {run : List ℕ} {x : ℕ} {marks : List ℕ} {s i : ℕ} (k : Reaching m s₀ run x marks s i) where
   -- the walk stops here
-  stops-here : (i < length run → Reach (visits_from m s (drop i run)) x marks → ⊥) → Stops m s₀ run x marks (record { settings = i; state = s })
-  stops-here n = record { within = k.within; state = k.state; front = k.front; walked = k.walked; reach = k.reach; stops = n }
+  stops_here : (i < length run → Reach (visits_from m s (drop i run)) x marks → ⊥) → Stops m s₀ run x marks (record { settings = i; state = s })
+  stops_here n = record { within = k.within; state = k.state; front = k.front; walked = k.walked; reach = k.reach; stops = n }
 
-  pub reaching-end : i ≡ length run → Stops m s₀ run x marks (record { settings = length run; state = s })
-  reaching-end e = subst (λ j. Stops m s₀ run x marks (record { settings = j; state = s })) e (stops-here (λ h. absurd (omega arith)))
+  pub reaching_end : i ≡ length run → Stops m s₀ run x marks (record { settings = length run; state = s })
+  reaching_end e = subst (λ j. Stops m s₀ run x marks (record { settings = j; state = s })) e (stops_here (λ h. absurd (omega arith)))
 
   module _ {w : ℕ} {r : Visited} (h : i < length run) (e : w ≡ get_or run i 0) (c : Changed m s w r) where
     below : (d : ℕ) → In d (r.entered ∷ r.moved ∷ visits_from m r.state (drop (i + 1) run)) → get_or marks d 0 < x → Stops m s₀ run x marks (record { settings = i; state = s })
-    below d j l = stops-here (λ _ a. omega (arith, (subst (λ cs. Reach cs x marks) (ahead run h e c) a).each d j))
+    below d j l = stops_here (λ _ a. omega (arith, (subst (λ cs. Reach cs x marks) (ahead run h e c) a).each d j))
 
     -- one of the two couples that setting i visits has a smaller mark
-    pub reaching-entered : get_or marks r.entered 0 < x → Stops m s₀ run x marks (record { settings = i; state = s })
-    reaching-entered = below r.entered (inl refl)
+    pub reaching_entered : get_or marks r.entered 0 < x → Stops m s₀ run x marks (record { settings = i; state = s })
+    reaching_entered = below r.entered (inl refl)
 
-    pub reaching-moved : get_or marks r.moved 0 < x → Stops m s₀ run x marks (record { settings = i; state = s })
-    reaching-moved = below r.moved (inr (inl refl))
+    pub reaching_moved : get_or marks r.moved 0 < x → Stops m s₀ run x marks (record { settings = i; state = s })
+    reaching_moved = below r.moved (inr (inl refl))
 
     -- neither has
-    pub reaching-more : r.state < m.states → x ≤ get_or marks r.entered 0 → x ≤ get_or marks r.moved 0 → Reaching m s₀ run x marks r.state (i + 1)
-    reaching-more l a b = record {
+    pub reaching_more : r.state < m.states → x ≤ get_or marks r.entered 0 → x ≤ get_or marks r.moved 0 → Reaching m s₀ run x marks r.state (i + 1)
+    reaching_more l a b = record {
       within = omega arith;
       state = l;
       front = k.front ++ (r.entered ∷ r.moved ∷ []);
@@ -131,26 +131,26 @@ noted_same (c ∷ cs) ds x marks all =
 -- A run whose front has marks of at least `total` already, and whose rest was asked for marks of at least `end`.
 module _ {m : Machine} {run : List ℕ} {end total : ℕ} {marks : List ℕ} (r : Run m run) (few : Few total marks) (h : end ≤ total) {p : Place} (a : Stops m m.initial run total marks p) where
   -- what the rest says of marks that reach the end, the run says
-  as-rest : Reach (visits_from m p.state (drop p.settings run)) end marks ↔ Reach (visits m run) end marks
-  as-rest = (
+  as_rest : Reach (visits_from m p.state (drop p.settings run)) end marks ↔ Reach (visits m run) end marks
+  as_rest = (
     λ x. (reach_run m end marks run r).0 (subst (λ cs. Reach cs end marks) (sym a.walked) (reach_both {cs = a.front} (record { each = λ c i. let l = a.reach.each c i in omega arith }) x)),
     λ x. reach_back a.front (visits_from m p.state (drop p.settings run)) (subst (λ cs. Reach cs end marks) a.walked ((reach_run m end marks run r).1 x)),
   )
 
   -- marking the rest marks the run
-  pub mark-rest : noted (visits_from m p.state (drop p.settings run)) total marks ≡ noted (visits m run) total marks
-  mark-rest =
+  pub mark_rest : noted (visits_from m p.state (drop p.settings run)) total marks ≡ noted (visits m run) total marks
+  mark_rest =
       sym (noted_same a.front (visits_from m p.state (drop p.settings run)) total marks (λ c i. let l = a.reach.each c i in let k = few.each c in omega arith))
       ∙ ap (λ (cs : List ℕ). noted cs total marks) (sym a.walked) ∙ noted_run_lem m run total marks r
 
   module _ {q : Place} (b : Stops m p.state (drop p.settings run) end marks q) where
-    pub rest-reaches : q.settings ≡ length (drop p.settings run) → Reach (visits m run) end marks
-    rest-reaches e = as-rest.0 (subst (λ cs. Reach cs end marks) (sym all) b.reach)
+    pub rest_reaches : q.settings ≡ length (drop p.settings run) → Reach (visits m run) end marks
+    rest_reaches e = as_rest.0 (subst (λ cs. Reach cs end marks) (sym all) b.reach)
       where
         all : visits_from m p.state (drop p.settings run) ≡ b.front
         all = b.walked ∙ ap (λ (l : List ℕ). b.front ++ visits_from m q.state l) (ap (λ (j : ℕ). drop j (drop p.settings run)) e ∙ drop-length (drop p.settings run)) ∙ append-nil b.front
 
-    pub rest-fails : (q.settings ≡ length (drop p.settings run) → ⊥) → Reach (visits m run) end marks → ⊥
-    rest-fails n x =
+    pub rest_fails : (q.settings ≡ length (drop p.settings run) → ⊥) → Reach (visits m run) end marks → ⊥
+    rest_fails n x =
         let l : q.settings < length (drop p.settings run) = omega (arith, b.within) in
-        b.stops l (reach_back b.front (visits_from m q.state (drop q.settings (drop p.settings run))) (subst (λ cs. Reach cs end marks) b.walked (as-rest.1 x)))
+        b.stops l (reach_back b.front (visits_from m q.state (drop q.settings (drop p.settings run))) (subst (λ cs. Reach cs end marks) b.walked (as_rest.1 x)))

@@ -15,9 +15,9 @@ use Rattle.machine.specs.Limits.{Sized as TableSized}
 use Rattle.machine.specs.Runs.{machine_of}
 use Rattle.machine.specs.declared.Frame.{Frame}
 use Rattle.machine.proofs.Couples.{couple_of, couple_below}
-use Rattle.machine.proofs.Same.{transient-into}
+use Rattle.machine.proofs.Same.{transient_into}
 use Rattle.machine.proofs.Sizes.{sizes}
-use Rattle.machine.proofs.Soundness.{sound-machine}
+use Rattle.machine.proofs.Soundness.{sound_machine}
 use Rattle.tables.specs.Tables.{start_checks}
 use Rattle.tables.specs.inner.Fits.{Checked}
 use Rattle.specification.specs.Records.{sizes_of, settings, couples}
@@ -25,7 +25,7 @@ use Rattle.specification.specs.Rules.{MoveAt, TableOf, FrameOf}
 use Rattle.specification.specs.Reading.{file_checks, ReadHere}
 use Rattle.specification.specs.declared.Contents.{Contents}
 use Rattle.specification.proofs.Framing.{framed, framed_is}
-use Rattle.specification.proofs.Settling.{leads-below, same_move, Ruled, table-into, into-table, states-only, start-there}
+use Rattle.specification.proofs.Settling.{leads_below, same_move, Ruled, table_into, into_table, states_only, start_there}
 
 module _ {file : List ℕ} {tableRoom wordRoom recordRoom : ℕ} {a : Answer} (v : Judged (file_checks file tableRoom wordRoom recordRoom) Passed a) (e : a.number ≡ 0) where
   passes : Passes (file_checks file tableRoom wordRoom recordRoom)
@@ -36,8 +36,8 @@ module _ {file : List ℕ} {tableRoom wordRoom recordRoom : ℕ} {a : Answer} (v
     nowhere = λ p f. passes.1.0.nowhere 0 (refl, λ s. let g = s.ranges in f.1 (record { some_input = g.some_input; few_inputs = g.few_inputs; few_states = g.few_states; begins = g.begins }));
   })
 
-  pub table-once : {t u : List ℕ} → TableOf file t → TableOf file u → t ≡ u
-  table-once {t} {u} x y =
+  pub table_once : {t u : List ℕ} → TableOf file t → TableOf file u → t ≡ u
+  table_once {t} {u} x y =
       ext_get_or 0 t u (x.whole ∙ sym y.whole) (λ p h.
       let l : p < couples (sizes_of file) = omega (arith, x.whole) in
       let k = couple_of p (pow_pos (sizes_of file).inputs) l in
@@ -46,26 +46,26 @@ module _ {file : List ℕ} {tableRoom wordRoom recordRoom : ℕ} {a : Answer} (v
   module _ {f : Frame} (x : FrameOf file (sizes_of file) f) (table : List ℕ) (long : couples (sizes_of file) ≤ length table)
       (each : (p : ℕ) → p < couples (sizes_of file) → MoveAt file (sizes_of file) (settings (sizes_of file)) p (get_or table p 0)) where
     ruled : Ruled file (sizes_of file) table
-    ruled = record { leads = leads-below file (sizes_of file) passes.1.1.1.1.1.0; single = passes.1.1.1.1.1.1.1.1.1.0; moves = each }
+    ruled = record { leads = leads_below file (sizes_of file) passes.1.1.1.1.1.0; single = passes.1.1.1.1.1.1.1.1.1.0; moves = each }
 
-    framed-accepted : Checked (machine_of (framed (sizes_of file) f.never f.starts) table) × Passes (start_checks (machine_of (framed (sizes_of file) f.never f.starts) table))
-    framed-accepted = (
+    framed_accepted : Checked (machine_of (framed (sizes_of file) f.never f.starts) table) × Passes (start_checks (machine_of (framed (sizes_of file) f.never f.starts) table))
+    framed_accepted = (
       record {
         tabled = record { sized = sized; long = long };
-        sound = sound-machine _ sized.begins
-            (record { nowhere = λ p x. let b = x.beyond in omega (arith, states-only ruled p (couple_below x.couple)) })
-            (record { nowhere = λ p x. passes.1.1.1.1.1.1.1.1.1.1.1.0.nowhere p (transient-into (table-into ruled) (into-table ruled) p x) });
+        sound = sound_machine _ sized.begins
+            (record { nowhere = λ p x. let b = x.beyond in omega (arith, states_only ruled p (couple_below x.couple)) })
+            (record { nowhere = λ p x. passes.1.1.1.1.1.1.1.1.1.1.1.0.nowhere p (transient_into (table_into ruled) (into_table ruled) p x) });
       },
-      (record { nowhere = λ p u. passes.1.1.1.1.1.1.1.1.1.1.1.1.1.1.0.nowhere p (u.0, λ s. u.1 (start-there ruled x sized.begins s)) }, tt),
+      (record { nowhere = λ p u. passes.1.1.1.1.1.1.1.1.1.1.1.1.1.1.0.nowhere p (u.0, λ s. u.1 (start_there ruled x sized.begins s)) }, tt),
     )
 
     pub accepted : Checked (machine_of f table) × Passes (start_checks (machine_of f table))
-    accepted = subst (λ (f : Frame). Checked (machine_of f table) × Passes (start_checks (machine_of f table))) (sym (framed_is x)) framed-accepted
+    accepted = subst (λ (f : Frame). Checked (machine_of f table) × Passes (start_checks (machine_of f table))) (sym (framed_is x)) framed_accepted
 
 -- by what reading answers and leaves
 module _ {file table words : List ℕ} {room : ℕ} {r : Contents} {t w : List ℕ} (u : ReadHere file table words room r t w) (e : r.answer.number ≡ 0) where
-  pub table-accepted : Checked (machine_of r.frame t) × Passes (start_checks (machine_of r.frame t))
-  table-accepted =
+  pub table_accepted : Checked (machine_of r.frame t) × Passes (start_checks (machine_of r.frame t))
+  table_accepted =
       let f = u.table.filled (inl e) in
       let h = roomy (judged_passes 13 u.verdict refl e).1.1.0 in
       accepted u.verdict e (u.done e).frame t (omega (arith, f.same_length)) f.needed

@@ -29,16 +29,16 @@ use Rattle.specification.specs.inner.Private.{SoundAs}
 use Rattle.specification.specs.declared.Contents.{Contents}
 use Rattle.specification.specs.declared.records.Sizes.{Sizes}
 use Rattle.specification.proofs.Laws.{laid}
-use Rattle.specification.proofs.Conditions.{condition-record}
-use Rattle.specification.proofs.Forms.{own-form}
+use Rattle.specification.proofs.Conditions.{condition_record}
+use Rattle.specification.proofs.Forms.{own_form}
 use Rattle.specification.proofs.Settling.{same_move}
-use Rattle.specification.proofs.Once.{no-two-rules, contents_only}
-use Rattle.specification.proofs.Refusals.{shape-passes, formed-not}
+use Rattle.specification.proofs.Once.{no_two_rules, contents_only}
+use Rattle.specification.proofs.Refusals.{shape_passes, formed_not}
 use Rattle.specification.proofs.Rewritten.{rested}
 use Rattle.specification.proofs.Places.{rewritten}
-use Rattle.specification.proofs.Shaped.{formed, sizes-are, sized}
-use Rattle.specification.proofs.Rests.{AllRead, unreads, carries, carries-back}
-use Rattle.specification.proofs.Carried.{Carries, moves-into, beyond-into, judged-into, contents_into}
+use Rattle.specification.proofs.Shaped.{formed, sizes_are, sized}
+use Rattle.specification.proofs.Rests.{AllRead, unreads, carries, carries_back}
+use Rattle.specification.proofs.Carried.{Carries, moves_into, beyond_into, judged_into, contents_into}
 
 -- what cannot be false of any number cannot be false of one below k
 below_not : {P : ℕ → Type 0} → ((r : ℕ) → (P r → ⊥) → ⊥) → (k : ℕ) → (((r : ℕ) → r < k → P r) → ⊥) → ⊥
@@ -53,7 +53,7 @@ all_read {f} {z} worded ok n =
     (λ r m. m (λ e. absurd (ok.nowhere r (record {
       below = omega (arith, e.below);
       worded = omega (arith, e.after);
-      unread = λ x. m (λ _. subst (Reads z.inputs) (condition-record f z r e.below) x);
+      unread = λ x. m (λ _. subst (Reads z.inputs) (condition_record f z r e.below) x);
     }))))
     (records z) (λ a. n (record { reads = λ r e. a r e.below e }))
 
@@ -94,8 +94,8 @@ alike_stable {t = t} {t'} {w} {w'} n = record {
 
 module _ {file table words : List ℕ} {room : ℕ} {r : Contents} {t w : List ℕ} (u : ReadHere file table words room r t w) where
   -- past 1 to 5 no record is beyond, and no condition does not read
-  texts-pass : Past 5 r.answer.number → None (Beyond file (sizes_of file)) × None (Unreads file (sizes_of file))
-  texts-pass past =
+  texts_pass : Past 5 r.answer.number → None (Beyond file (sizes_of file)) × None (Unreads file (sizes_of file))
+  texts_pass past =
       let p = (judged_past (shape_checks file (length table) (length words) room ++ check 4 (Beyond file (sizes_of file)) ∷ check 5 (Unreads file (sizes_of file)) ∷ []) 5 u.verdict refl past).0 in
       (p.1.1.1.1.1.0, p.1.1.1.1.1.1.0)
 
@@ -117,11 +117,11 @@ module _ {f table words : List ℕ} {room : ℕ} {r : Contents} {t w : List ℕ}
   to = carries (laid f wf sz) (rewritten f wf sz without) all fit.nested
 
   back : Carries z g 0 f z.worded
-  back = carries-back (laid f wf sz) (rewritten f wf sz without) all fit.nested
+  back = carries_back (laid f wf sz) (rewritten f wf sz without) all fit.nested
 
   -- the file with rest conditions passes 1 to 3, so that 4 to 13 answer there what they answer here
   sizes : sizes_of g ≡ rested z
-  sizes = sizes-are f wf sz
+  sizes = sizes_are f wf sz
 
   passes : Passes (shape_checks g (length table') (length words') room')
   passes = (
@@ -141,21 +141,21 @@ module _ {f table words : List ℕ} {room : ℕ} {r : Contents} {t w : List ℕ}
       (record { judged = judged_rest (shape_checks g (length table') (length words') room') passes u'.verdict; table = u'.table; words = u'.words })
 
   same_answer : r'.answer ≡ r.answer
-  same_answer = judged_unique (judged-into back to sz.ranges.begins there.judged) (shape-passes u (earlier past)).1
+  same_answer = judged_unique (judged_into back to sz.ranges.begins there.judged) (shape_passes u (earlier past)).1
 
   same_number : r'.answer.number ≡ r.answer.number
   same_number = ap (λ (a : Answer). a.number) same_answer
 
-  no-five : r.answer.number ≡ 5 → ⊥
-  no-five e = ⊎_elim (λ n. omega (arith, n)) (λ h. omega (arith, h)) past
+  no_five : r.answer.number ≡ 5 → ⊥
+  no_five e = ⊎_elim (λ n. omega (arith, n)) (λ h. omega (arith, h)) past
 
-  same-character : r'.character ≡ r.character
-  same-character = u'.character.other (λ e. no-five (sym same_number ∙ e)) ∙ sym (u.character.other no-five)
+  same_character : r'.character ≡ r.character
+  same_character = u'.character.other (λ e. no_five (sym same_number ∙ e)) ∙ sym (u.character.other no_five)
 
   contents : Dec (r.answer.number ≡ 0) → r' ≡ r
   contents (yes e) =
-      contents_only r' r (contents_into back.shares (subst (λ y. ContentsOf g y r') sizes (u'.done (same_number ∙ e)))) (u.done e) same_answer same-character
-  contents (no n) = u'.refused (λ e. n (sym same_number ∙ e)) ∙ ap₂ refusal_of same_answer same-character ∙ sym (u.refused n)
+      contents_only r' r (contents_into back.shares (subst (λ y. ContentsOf g y r') sizes (u'.done (same_number ∙ e)))) (u.done e) same_answer same_character
+  contents (no n) = u'.refused (λ e. n (sym same_number ∙ e)) ∙ ap₂ refusal_of same_answer same_character ∙ sym (u.refused n)
 
   few : 3 < r.answer.number → r.answer.number ≤ 13
   few h = (judged_number 1 13 u.verdict refl (λ e. omega arith)).1
@@ -164,7 +164,7 @@ module _ {f table words : List ℕ} {room : ℕ} {r : Contents} {t w : List ℕ}
   alike = record {
     contents = contents (ℕ_discrete r.answer.number 0);
     moves = left_alike (earlier past) few
-        (λ e p x y h a b. let k = couple_of p (pow_pos z.inputs) h in same_move f z (no-two-rules u e) k (moves-into back (a.move _ _ k)) (b.move _ _ k))
+        (λ e p x y h a b. let k = couple_of p (pow_pos z.inputs) h in same_move f z (no_two_rules u e) k (moves_into back (a.move _ _ k)) (b.move _ _ k))
         (rw same_number at there.table) u.table;
     outputs = left_alike (earlier past) few (λ e s x y h a b. a ∙ to.shares.words s h ∙ sym b) (rw same_number at there.words) u.words;
   }
@@ -177,9 +177,9 @@ pub read_alike : {f table words : List ℕ} {room : ℕ} {r : Contents} {t w tab
     → couples (sizes_of f) ≤ length table' → (sizes_of f).states ≤ length words' → (sizes_of f).evolutions ≤ room'
     → Alike f r r' t t' w w'
 read_alike {f} u marked fit past u' h k l =
-    let without = own-form f false marked in
-    alike_stable (λ n. formed-not u (earlier past) (λ x.
-    all_read (rewritten f x.0 x.1 without).worded (texts-pass u past).1 (λ all. n (alike u past x.0 x.1 without all fit u' h k l))))
+    let without = own_form f false marked in
+    alike_stable (λ n. formed_not u (earlier past) (λ x.
+    all_read (rewritten f x.0 x.1 without).worded (texts_pass u past).1 (λ all. n (alike u past x.0 x.1 without all fit u' h k l))))
 
 -- a record beyond, or a condition that does not read, is so with rest conditions
 texts_back : (f : List ℕ) → WellFormed f → Sized f → rests_of f ≡ false → None (Beyond (with_rests f) (sizes_of (with_rests f))) × None (Unreads (with_rests f) (sizes_of (with_rests f)))
@@ -187,8 +187,8 @@ texts_back : (f : List ℕ) → WellFormed f → Sized f → rests_of f ≡ fals
 texts_back f wf sz without p =
     let l = laid f wf sz in
     let w = rewritten f wf sz without in
-    let p = subst (λ y. None (Beyond (with_rests f) y) × None (Unreads (with_rests f) y)) (sizes-are f wf sz) p in
-    (record { nowhere = λ r x. p.0.nowhere r (beyond-into w.shares (sizes_of f).worded 0 r x) }, (record { nowhere = λ r x. p.1.nowhere r (unreads l w r x) }, tt))
+    let p = subst (λ y. None (Beyond (with_rests f) y) × None (Unreads (with_rests f) y)) (sizes_are f wf sz) p in
+    (record { nowhere = λ r x. p.0.nowhere r (beyond_into w.shares (sizes_of f).worded 0 r x) }, (record { nowhere = λ r x. p.1.nowhere r (unreads l w r x) }, tt))
 
 -- And back: where the file with rest conditions is read, or refused by 6 or later, the file without is not refused by 4 or 5.
 pub past_back : {f table words : List ℕ} {room : ℕ} {r : Contents} {t w table' words' : List ℕ} {room' : ℕ} {r' : Contents} {t' w' : List ℕ}
@@ -197,8 +197,8 @@ pub past_back : {f table words : List ℕ} {room : ℕ} {r : Contents} {t w tabl
     → Past 5 r.answer.number
 past_back {f} {r = r} u marked early u' past = ⊎_elim inl
     (λ n.
-    let late : r.answer.number ≤ 5 → ⊥ = λ h. formed-not u early (λ x.
-    let v = judged_rest (check 4 (Beyond f (sizes_of f)) ∷ check 5 (Unreads f (sizes_of f)) ∷ []) (texts_back f x.0 x.1 (own-form f false marked) (texts-pass u' past)) (shape-passes u early).1 in
+    let late : r.answer.number ≤ 5 → ⊥ = λ h. formed_not u early (λ x.
+    let v = judged_rest (check 4 (Beyond f (sizes_of f)) ∷ check 5 (Unreads f (sizes_of f)) ∷ []) (texts_back f x.0 x.1 (own_form f false marked) (texts_pass u' past)) (shape_passes u early).1 in
     omega (arith, (judged_number 6 13 v refl n).0)) in
     inr (omega arith))
     (equal_or r.answer.number 0)

@@ -20,12 +20,12 @@ module _ {file : List ℕ} (x : Entries file) where
   counted zero e = omega arith
   counted (suc n) e = omega (arith, high n (omega arith), x.known n (omega arith))
 
-  pub count-few : count_of file ≤ most_kinds
-  count-few = counted (count_of file) refl
+  pub count_few : count_of file ≤ most_kinds
+  count_few = counted (count_of file) refl
 
   -- each kind fits, by itself and the one before
-  pub kind-fit : (k : ℕ) → k < count_of file → KindFits file k
-  kind-fit k l = record {
+  pub kind_fit : (k : ℕ) → k < count_of file → KindFits file k
+  kind_fit k l = record {
     always = x.always k;
     rising = λ h. let e : suc (k - 1) ≡ k = omega arith in rw e at (x.rising (k - 1) (omega arith));
     known = x.known k l;
@@ -42,5 +42,5 @@ module _ {file : List ℕ} (x : Entries file) where
       let beyond : j < i → ⊥ = λ l. omega (arith, above j i l a.there, a.is, b.is) in
       omega arith
 
-  pub body-within : (k : ℕ) → k < count_of file → start_of file k + length_of file k ≤ length file
-  body-within k l = omega (arith, start_more file k, start_le file (k + 1) (count_of file) (omega arith), x.ends)
+  pub body_within : (k : ℕ) → k < count_of file → start_of file k + length_of file k ≤ length file
+  body_within k l = omega (arith, start_more file k, start_le file (k + 1) (count_of file) (omega arith), x.ends)

@@ -14,12 +14,12 @@ use Rattle.specification.specs.inner.Filling.{place_of, filled_of, filling}
 
 module _ (f : List ℕ) (from text : ℕ) where
   -- places only grow
-  place-step : (i d : ℕ) → place_of f from text i ≤ place_of f from text (d + i)
-  place-step i zero = rw zero-add (omega arith)
-  place-step i (suc d) = rw suc-add (omega (arith, place-step i d))
+  place_step : (i d : ℕ) → place_of f from text i ≤ place_of f from text (d + i)
+  place_step i zero = rw zero-add (omega arith)
+  place_step i (suc d) = rw suc-add (omega (arith, place_step i d))
 
-  pub place-le : (i j : ℕ) → i ≤ j → place_of f from text i ≤ place_of f from text j
-  place-le i j h = rw (sub-add_cancel {n = j} {m = i} h) at (place-step i (j - i))
+  pub place_le : (i j : ℕ) → i ≤ j → place_of f from text i ≤ place_of f from text j
+  place_le i j h = rw (sub-add_cancel {n = j} {m = i} h) at (place_step i (j - i))
 
   module _ (good : Bool) where
     count_is : (n : ℕ) → length (filling f from text good n) ≡ n
@@ -31,8 +31,8 @@ module _ (f : List ℕ) (from text : ℕ) where
       abbrev pub filled : ℕ → List Evolution
       filled i = filling f from text good i ++ drop i ys
 
-      pub filled-length : (i : ℕ) → i ≤ length ys → length (filled i) ≡ length ys
-      filled-length i h = simp (length-append, count_is, length-drop) (omega arith)
+      pub filled_length : (i : ℕ) → i ≤ length ys → length (filled i) ≡ length ys
+      filled_length i h = simp (length-append, count_is, length-drop) (omega arith)
 
       pub filled_more : (i : ℕ) → i < length ys → set (filled i) i (filled_of f from text good i) ≡ filled (i + 1)
       filled_more i h =

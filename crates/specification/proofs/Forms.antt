@@ -16,41 +16,41 @@ use Rattle.specification.specs.Records.{sizes_of, Evolves}
 use Rattle.specification.specs.Rules.{text_of, Idle, HoldsAt, by_text, by_rest, Fires, Two, NoRule}
 use Rattle.condition.specs.Condition.{Holds}
 use Rattle.specification.specs.declared.records.Sizes.{Sizes}
-use Rattle.specification.proofs.Laws.{prefix-at}
-use Rattle.specification.proofs.Firing.{rule-state, rule-evolution, rule-other}
+use Rattle.specification.proofs.Laws.{prefix_at}
+use Rattle.specification.proofs.Firing.{rule_state, rule_evolution, rule_other}
 
 -- a file that has the mark of a form is of that form
 module _ (file : List ℕ) where
-  pub own-form : (rests : Bool) → take 4 file ≡ mark rests → rests_of file ≡ rests
-  own-form true e = ap (λ c. eqb c (code "1")) (prefix-at file (mark true) 3 (omega arith) e)
-  own-form false e = ap (λ c. eqb c (code "1")) (prefix-at file (mark false) 3 (omega arith) e)
+  pub own_form : (rests : Bool) → take 4 file ≡ mark rests → rests_of file ≡ rests
+  own_form true e = ap (λ c. eqb c (code "1")) (prefix_at file (mark true) 3 (omega arith) e)
+  own_form false e = ap (λ c. eqb c (code "1")) (prefix_at file (mark false) 3 (omega arith) e)
 
-  pub own-mark : (rests : Bool) → take 4 file ≡ mark rests → take 4 file ≡ mark (rests_of file)
-  own-mark rests e = e ∙ ap mark (sym (own-form rests e))
+  pub own_mark : (rests : Bool) → take 4 file ≡ mark rests → take 4 file ≡ mark (rests_of file)
+  own_mark rests e = e ∙ ap mark (sym (own_form rests e))
 
-  pub other-mark : (take 4 file ≡ mark true → ⊥) → take 4 file ≡ mark (rests_of file) → take 4 file ≡ mark false
-  other-mark n e = by (rests_of file) e
+  pub other_mark : (take 4 file ≡ mark true → ⊥) → take 4 file ≡ mark (rests_of file) → take 4 file ≡ mark false
+  other_mark n e = by (rests_of file) e
     where
       by : (rests : Bool) → take 4 file ≡ mark rests → take 4 file ≡ mark false
       by true e = absurd (n e)
       by false e = e
 
   -- each record has a condition, or those of the evolutions
-  pub all-worded : rests_of file ≡ true → (sizes_of file).worded ≡ 0
-  all-worded e = rw e
+  pub all_worded : rests_of file ≡ true → (sizes_of file).worded ≡ 0
+  all_worded e = rw e
 
-  pub evolutions-worded : rests_of file ≡ false → (sizes_of file).worded ≡ (sizes_of file).states
-  evolutions-worded e = rw e
+  pub evolutions_worded : rests_of file ≡ false → (sizes_of file).worded ≡ (sizes_of file).states
+  evolutions_worded e = rw e
 
 -- a record holds by its condition, or by rest
 module _ {file : List ℕ} {z : Sizes} {v r : ℕ} where
-  pub of-text : z.worded ≤ r → HoldsAt file z v r → Holds z.inputs v (text_of file z r)
-  of-text h (by_text _ t) = t
-  of-text h (by_rest l _) = absurd (omega arith)
+  pub of_text : z.worded ≤ r → HoldsAt file z v r → Holds z.inputs v (text_of file z r)
+  of_text h (by_text _ t) = t
+  of_text h (by_rest l _) = absurd (omega arith)
 
-  pub of-rest : r < z.worded → HoldsAt file z v r → Idle file z r v
-  of-rest h (by_text l _) = absurd (omega arith)
-  of-rest h (by_rest _ i) = i
+  pub of_rest : r < z.worded → HoldsAt file z v r → Idle file z r v
+  of_rest h (by_text l _) = absurd (omega arith)
+  of_rest h (by_rest _ i) = i
 
 -- without rest conditions a state rests where no evolution from it holds
 pub never_no_rule : (file : List ℕ) (z : Sizes) (m : ℕ) → z.worded ≡ z.states → None (NoRule file z m)
@@ -60,9 +60,9 @@ never_no_rule file z m e =
           let h = x.couple.state in
           x.none x.s (record {
             below = omega arith;
-            rule = rule-state file z x.s h;
+            rule = rule_state file z x.s h;
             holds = by_rest (omega arith) (record {
-              none = λ r k from t. x.none r (record { below = k.below; rule = rule-evolution file z r k.after ∙ from; holds = by_text (omega (arith, k.after)) t });
+              none = λ r k from t. x.none r (record { below = k.below; rule = rule_evolution file z r k.after ∙ from; holds = by_text (omega (arith, k.after)) t });
             });
           });
     }
@@ -71,9 +71,9 @@ never_no_rule file z m e =
 pub two_evolve : {file : List ℕ} {z : Sizes} {s v : ℕ} → z.worded ≡ z.states → (t : Two (Fires file z s v)) → Evolves z t.low × Evolves z t.high
 two_evolve {file} {z} e t = ⊎_elim
     (λ h.
-    let own = rule-state file z t.low h in
+    let own = rule_state file z t.low h in
     let is = t.other.rule ∙ sym t.one.rule ∙ own in
-    let k = rule-other file z t.high is (λ q. omega (arith, t.differ)) in
-    absurd ((of-rest (omega arith) t.one.holds).none t.high (record { after = k; below = t.other.below }) (sym (rule-evolution file z t.high k) ∙ is) (of-text (omega arith) t.other.holds)))
+    let k = rule_other file z t.high is (λ q. omega (arith, t.differ)) in
+    absurd ((of_rest (omega arith) t.one.holds).none t.high (record { after = k; below = t.other.below }) (sym (rule_evolution file z t.high k) ∙ is) (of_text (omega arith) t.other.holds)))
     (λ h. (record { after = h; below = t.one.below }, record { after = omega (arith, t.differ); below = t.other.below }))
     (below_or t.low z.states)

@@ -22,28 +22,28 @@ use Rattle.verdict.proofs.Below.{sum_more}
 
 module _ (file : List ℕ) (z : Sizes) (from text : ℕ) (ef : from ≡ record_at z z.states) (ex : text ≡ text_at file z z.states) where
   -- byte k of evolution i
-  byte-is : (i k : ℕ) → get_or file (from + 3 * i + k) 0 ≡ get_or file (record_at z (z.states + i) + k) 0
-  byte-is i k = let e : from + 3 * i + k ≡ record_at z (z.states + i) + k = omega (arith, ef) in ap (λ (at : ℕ). get_or file at 0) e
+  byte_is : (i k : ℕ) → get_or file (from + 3 * i + k) 0 ≡ get_or file (record_at z (z.states + i) + k) 0
+  byte_is i k = let e : from + 3 * i + k ≡ record_at z (z.states + i) + k = omega (arith, ef) in ap (λ (at : ℕ). get_or file at 0) e
 
   place_is : (i : ℕ) → place_of file from text i ≡ text_at file z (z.states + i)
   place_is zero = let e : z.states ≡ z.states + 0 = omega arith in ex ∙ ap (text_at file z) e
   place_is (suc i) =
       let e : z.states + suc i ≡ z.states + i + 1 = omega arith in
-      omega (arith, place_is i, byte-is i 2, ap (sum_to (text_length file z)) e, sum_more (text_length file z) (z.states + i))
+      omega (arith, place_is i, byte_is i 2, ap (sum_to (text_length file z)) e, sum_more (text_length file z) (z.states + i))
 
-  one-is : (i : ℕ) → filled_of file from text true i ≡ evolution_of file z i
-  one-is i =
+  one_is : (i : ℕ) → filled_of file from text true i ≡ evolution_of file z i
+  one_is i =
       let e : from + 3 * i ≡ record_at z (z.states + i) + 0 = omega (arith, ef) in
       let s : get_or file (from + 3 * i) 0 ≡ source file z (z.states + i) = ap (λ (at : ℕ). get_or file at 0) e in
-      cc (s, byte-is i 1, byte-is i 2, place_is i)
+      cc (s, byte_is i 1, byte_is i 2, place_is i)
 
   all_are : (n : ℕ) → filling file from text true n ≡ evolutions file z n
   unfolding evolutions
   all_are zero = refl
-  all_are (suc n) = ap₂ (λ (l : List Evolution) (e : Evolution). l ++ e ∷ []) (all_are n) (one-is n)
+  all_are (suc n) = ap₂ (λ (l : List Evolution) (e : Evolution). l ++ e ∷ []) (all_are n) (one_is n)
 
-  all-fillable : Laid file z → Fillable file from text z.evolutions
-  all-fillable l =
+  all_fillable : Laid file z → Fillable file from text z.evolutions
+  all_fillable l =
       record {
         entries = omega (arith, ef, l.texts);
         few = l.few;
@@ -61,7 +61,7 @@ fillable {file} {r = r} c = (
   c.fits,
   λ h.
       let p = c.hands.places h in
-      subst (Fillable file r.from r.text) (sym p.1) (all-fillable file (sizes_of file) r.from r.text p.2 p.3 p.0),
+      subst (Fillable file r.from r.text) (sym p.1) (all_fillable file (sizes_of file) r.from r.text p.2 p.3 p.0),
 )
 
 module _ (file table words : List ℕ) (a b : List Evolution) (r : Core) (t w : List ℕ) (c : CoreAs file table words (length a) r t w)

@@ -19,14 +19,14 @@ use Rattle.specification.specs.declared.records.RecordCheck as RecordCheck
 
 -- a prefix, by its elements
 module _ (file mark : List ℕ) where
-  pub prefix-long : take (length mark) file ≡ mark → length mark ≤ length file
-  prefix-long e = omega (arith, length-take (length mark) file, ap length e)
+  pub prefix_long : take (length mark) file ≡ mark → length mark ≤ length file
+  prefix_long e = omega (arith, length-take (length mark) file, ap length e)
 
-  pub prefix-at : (i : ℕ) → i < length mark → take (length mark) file ≡ mark → get_or file i 0 ≡ get_or mark i 0
-  prefix-at i h e = sym (get_or-take (length mark) file i 0 h) ∙ ap (λ (l : List ℕ). get_or l i 0) e
+  pub prefix_at : (i : ℕ) → i < length mark → take (length mark) file ≡ mark → get_or file i 0 ≡ get_or mark i 0
+  prefix_at i h e = sym (get_or-take (length mark) file i 0 h) ∙ ap (λ (l : List ℕ). get_or l i 0) e
 
-  pub prefix-all : length mark ≤ length file → ((k : ℕ) → k < length mark → get_or file k 0 ≡ get_or mark k 0) → take (length mark) file ≡ mark
-  prefix-all h all =
+  pub prefix_all : length mark ≤ length file → ((k : ℕ) → k < length mark → get_or file k 0 ≡ get_or mark k 0) → take (length mark) file ≡ mark
+  prefix_all h all =
       ext_get_or 0 (take (length mark) file) mark (length-take-le (length mark) file h)
       (λ i l. let q : i < length mark = omega (arith, length-take (length mark) file) in get_or-take (length mark) file i 0 q ∙ all i q)
 
@@ -76,23 +76,23 @@ laid_read {file} s = subst (Laid file) (sym s.2) (laid file s.0 s.1)
 
 -- refusal 4, of a state's record and of an evolution's
 module _ {file : List ℕ} {z : Sizes} {r : ℕ} where
-  pub beyond-word : r < z.states → Beyond file z r → 2 ^ z.outputs ≤ word file z r
-  beyond-word h (output_beyond l w) = w
-  beyond-word h (source_beyond e w) = absurd (omega (arith, e.after))
-  beyond-word h (target_beyond e w) = absurd (omega (arith, e.after))
+  pub beyond_word : r < z.states → Beyond file z r → 2 ^ z.outputs ≤ word file z r
+  beyond_word h (output_beyond l w) = w
+  beyond_word h (source_beyond e w) = absurd (omega (arith, e.after))
+  beyond_word h (target_beyond e w) = absurd (omega (arith, e.after))
 
-  pub beyond-state : z.states ≤ r → Beyond file z r → (z.states ≤ source file z r) ⊎ (z.states ≤ target file z r)
-  beyond-state h (output_beyond l w) = absurd (omega arith)
-  beyond-state h (source_beyond e w) = inl w
-  beyond-state h (target_beyond e w) = inr w
+  pub beyond_state : z.states ≤ r → Beyond file z r → (z.states ≤ source file z r) ⊎ (z.states ≤ target file z r)
+  beyond_state h (output_beyond l w) = absurd (omega arith)
+  beyond_state h (source_beyond e w) = inl w
+  beyond_state h (target_beyond e w) = inr w
 
-  beyond-below : Beyond file z r → r < records z
-  beyond-below (output_beyond l w) = omega arith
-  beyond-below (source_beyond e w) = e.below
-  beyond-below (target_beyond e w) = e.below
+  beyond_below : Beyond file z r → r < records z
+  beyond_below (output_beyond l w) = omega arith
+  beyond_below (source_beyond e w) = e.below
+  beyond_below (target_beyond e w) = e.below
 
 -- only records fail
 pub wrong_below : (file : List ℕ) (z : Sizes) (check : RecordCheck) (r : ℕ) → Wrong file z check r → r < records z
-wrong_below file z RecordCheck.TheVariants.Beyond r w = beyond-below w
+wrong_below file z RecordCheck.TheVariants.Beyond r w = beyond_below w
 wrong_below file z RecordCheck.TheVariants.Own r w = w.evolves.below
 wrong_below file z RecordCheck.TheVariants.Twice r w = w.evolves.below

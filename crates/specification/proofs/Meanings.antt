@@ -19,7 +19,7 @@ use Rattle.verdict.specs.Checks.{Decides}
 use Rattle.verdict.proofs.Order.{judged_passes}
 use Rattle.verdict.proofs.Tests.{decides_map, decides_is, decides_equal, decides_unique}
 use Rattle.sets.specs.Sets.{words, member}
-use Rattle.sets.proofs.Arrays.{set-none, set_of_only}
+use Rattle.sets.proofs.Arrays.{set_none, set_of_only}
 use Rattle.condition.specs.Condition.{Holds}
 use Rattle.evolutions.specs.Evolutions.{blank, Met}
 use Rattle.evolutions.specs.declared.Evolution.{Evolution}
@@ -35,39 +35,39 @@ use Rattle.specification.specs.declared.Contents.{Contents}
 use Rattle.specification.specs.declared.records.Sizes.{Sizes}
 use Rattle.verdict.proofs.Below.{sum_below}
 use Rattle.specification.proofs.Laws.{laid}
-use Rattle.specification.proofs.Optional.{none_never, zero-allowed, any-allowed}
-use Rattle.specification.proofs.Once.{no-two-rules}
-use Rattle.specification.proofs.Settling.{same-rule}
+use Rattle.specification.proofs.Optional.{none_never, zero_allowed, any_allowed}
+use Rattle.specification.proofs.Once.{no_two_rules}
+use Rattle.specification.proofs.Settling.{same_rule}
 
 module _ {file table words₀ : List ℕ} {room : ℕ} {r : Contents} {t w : List ℕ} (u : ReadHere file table words₀ room r t w) (e : r.answer.number ≡ 0) where
   means : (s v : ℕ) → s < (sizes_of file).states → v < settings (sizes_of file) → OneRule file (sizes_of file) s v (get_or t (couple_at (settings (sizes_of file)) s v) 0)
   means s v h k =
       let c : Couple (sizes_of file).states (settings (sizes_of file)) s v (couple_at (settings (sizes_of file)) s v) = record { state = h; setting = k; number = refl } in
       let m = ((u.table.filled (inl e)).needed _ (digits_lt h k)).move s v c in
-      record { rule = m.rule; fires = m.fires; only = λ r f. same-rule file (sizes_of file) (no-two-rules u e) c r m.rule f m.fires; leads = m.leads }
+      record { rule = m.rule; fires = m.fires; only = λ r f. same_rule file (sizes_of file) (no_two_rules u e) c r m.rule f m.fires; leads = m.leads }
 
   -- by the sizes that are answered
-  pub table-means : (s v : ℕ) → s < r.frame.states → v < 2 ^ r.frame.inputs → OneRule file (sizes_of file) s v (get_or t (couple_at (2 ^ r.frame.inputs) s v) 0)
-  table-means s v h k =
+  pub table_means : (s v : ℕ) → s < r.frame.states → v < 2 ^ r.frame.inputs → OneRule file (sizes_of file) s v (get_or t (couple_at (2 ^ r.frame.inputs) s v) 0)
+  table_means s v h k =
       let n : r.frame.inputs ≡ (sizes_of file).inputs = (u.done e).frame.inputs in
       let m : r.frame.states ≡ (sizes_of file).states = (u.done e).frame.states in
       subst (λ n. OneRule file (sizes_of file) s v (get_or t (couple_at (2 ^ n) s v) 0)) (sym n) (means s v (subst (λ k. s < k) m h) (subst (λ n. v < 2 ^ n) n k))
 
   -- the sets that are answered: without kind 5 no setting is ruled out, and without kind 6 setting 0 alone is an allowed start
-  pub never-none : (Has file never_kind → ⊥) → r.frame.never ≡ replicate words 0
-  never-none n = set_of_only (u.done e).frame.never (set-none words (settings (sizes_of file)) (λ v h. none_never n))
+  pub never_none : (Has file never_kind → ⊥) → r.frame.never ≡ replicate words 0
+  never_none n = set_of_only (u.done e).frame.never (set_none words (settings (sizes_of file)) (λ v h. none_never n))
 
-  pub starts-zero : (Has file starts_kind → ⊥) → (v : ℕ) → member r.frame.starts v ≡ eqb v 0
-  starts-zero n v =
+  pub starts_zero : (Has file starts_kind → ⊥) → (v : ℕ) → member r.frame.starts v ≡ eqb v 0
+  starts_zero n v =
       let s = (u.done e).frame.starts in
       ⊎_elim
-      (λ h. decides_unique (Allowed file (sizes_of file) v) (member r.frame.starts v) (eqb v 0) (s.each v h) (decides_map (power_up n) (zero-allowed n) (decides_equal v 0)))
+      (λ h. decides_unique (Allowed file (sizes_of file) v) (member r.frame.starts v) (eqb v 0) (s.each v h) (decides_map (power_up n) (zero_allowed n) (decides_equal v 0)))
       (λ h. s.beyond v h ∙ sym (ne_eqb v 0 (λ q. omega (arith, pow_pos (sizes_of file).inputs))))
       (below_or v (settings (sizes_of file)))
 
   -- with kind 6 `1` every setting is
-  pub starts-all : AnyStart file → (v : ℕ) → v < 2 ^ r.frame.inputs → member r.frame.starts v ≡ true
-  starts-all a v h = let f = (u.done e).frame in decides_is (f.starts.each v (subst (λ (n : ℕ). v < 2 ^ n) f.inputs h)) (any-allowed a)
+  pub starts_all : AnyStart file → (v : ℕ) → v < 2 ^ r.frame.inputs → member r.frame.starts v ≡ true
+  starts_all a v h = let f = (u.done e).frame in decides_is (f.starts.each v (subst (λ (n : ℕ). v < 2 ^ n) f.inputs h)) (any_allowed a)
 
 -- the list of evolutions, by its elements
 module _ (file : List ℕ) (z : Sizes) where
@@ -105,8 +105,8 @@ module _ {file table words : List ℕ} {a : List Evolution} {r : Contents} {t w 
       omega arith
 
   -- what is asked of record i is asked of the condition of evolution i
-  pub record-asks : (i v : ℕ) {q : Bool} → i < r.evolutions → Decides (Met file (get_or b i blank) r.frame.inputs v) q → Decides (Holds (sizes_of file).inputs v (text_of file (sizes_of file) ((sizes_of file).states + i))) q
-  record-asks i v {q} h d =
+  pub record_asks : (i v : ℕ) {q : Bool} → i < r.evolutions → Decides (Met file (get_or b i blank) r.frame.inputs v) q → Decides (Holds (sizes_of file).inputs v (text_of file (sizes_of file) ((sizes_of file).states + i))) q
+  record_asks i v {q} h d =
       let n : r.frame.inputs ≡ (sizes_of file).inputs = (u.here.done e).frame.inputs in
       let m : r.evolutions ≡ (sizes_of file).evolutions = (u.here.done e).evolutions in
       decides_map (λ x. x.holds) (λ x. record { inside = inside i (omega arith); holds = x })

@@ -18,10 +18,10 @@ use Rattle.specification.specs.Reading.{ReadHere}
 use Rattle.specification.specs.Rests.{Bytes, summed, negated, conditions_from, rest_text, two_bytes, entry_bytes, state_bytes, with_rests, Fits}
 use Rattle.specification.specs.declared.Contents.{Contents}
 use Rattle.specification.specs.declared.records.Sizes.{Sizes}
-use Rattle.specification.proofs.Entries.{body-within}
-use Rattle.specification.proofs.Places.{count_is, offset-is, length-of}
+use Rattle.specification.proofs.Entries.{body_within}
+use Rattle.specification.proofs.Places.{count_is, offset_is, length_of_lem}
 use Rattle.specification.proofs.Shaped.{formed}
-use Rattle.specification.proofs.Refusals.{formed-not}
+use Rattle.specification.proofs.Refusals.{formed_not}
 
 -- ---- lists of bytes, as a record, so that the lists are inferred
 record Octets (w : List ℕ) : Type 0 where
@@ -45,10 +45,10 @@ bytes_drop zero xs a = a
 bytes_drop (suc n) [] a = tt
 bytes_drop (suc n) (x ∷ xs) a = bytes_drop n xs a.1
 
-bytes_at : (xs : List ℕ) (i : ℕ) → Bytes xs → get_or xs i 0 < 2 ^ 8
-bytes_at [] i a = omega arith
-bytes_at (x ∷ xs) zero a = a.0
-bytes_at (x ∷ xs) (suc i) a = bytes_at xs i a.1
+bytes_at_lem : (xs : List ℕ) (i : ℕ) → Bytes xs → get_or xs i 0 < 2 ^ 8
+bytes_at_lem [] i a = omega arith
+bytes_at_lem (x ∷ xs) zero a = a.0
+bytes_at_lem (x ∷ xs) (suc i) a = bytes_at_lem xs i a.1
 
 one_byte : (n : ℕ) → n < 2 ^ 8 → Octets (n ∷ [])
 one_byte n h = record { all = (h, tt) }
@@ -82,43 +82,43 @@ module _ (f : List ℕ) (a : Bytes f) where
   stretch : (n at : ℕ) → Octets (take n (drop at f))
   stretch n at = record { all = bytes_take n (drop at f) (bytes_drop at f a) }
 
-  texts-from : (z : Sizes) (s k : ℕ) → Texts (conditions_from f z s k)
+  texts_from : (z : Sizes) (s k : ℕ) → Texts (conditions_from f z s k)
   unfolding conditions_from
-  texts-from z s zero = none
-  texts-from z s (suc k) = texts_append (texts-from z s k) (by (eqb (source f z (z.states + k)) s))
+  texts_from z s zero = none
+  texts_from z s (suc k) = texts_append (texts_from z s k) (by (eqb (source f z (z.states + k)) s))
     where
       by : (b : Bool) → Texts (cond b (text_of f z (z.states + k) ∷ []) [])
       by true = also (stretch (text_length f z (z.states + k)) (text_at f z (z.states + k))) none
       by false = none
 
   module _ (fit : Fits f) where
-    octets-state : (s : ℕ) → s < (sizes_of f).states → Octets (state_bytes f (sizes_of f) s)
-    octets-state s h =
+    octets_state : (s : ℕ) → s < (sizes_of f).states → Octets (state_bytes f (sizes_of f) s)
+    octets_state s h =
         let at = record_at (sizes_of f) s in
-        two_bytes_lem _ (omega (arith, bytes_at f at a, bytes_at f (at + 1) a)) then one_byte _ (omega (arith, fit.short s h))
+        two_bytes_lem _ (omega (arith, bytes_at_lem f at a, bytes_at_lem f (at + 1) a)) then one_byte _ (omega (arith, fit.short s h))
 
     -- offsets and lengths are at most 65,535, as the bodies lie in the file
-    octets-entry : WellFormed f → Sized f → (k : ℕ) → k < count_of f → Octets (entry_bytes f k)
-    octets-entry wf sz k h =
+    octets_entry : WellFormed f → Sized f → (k : ℕ) → k < count_of f → Octets (entry_bytes f k)
+    octets_entry wf sz k h =
         let e = (formed f wf sz fit.few).entries in
         let l : k < count_of (with_rests f) = omega (arith, count_is f) in
-        let within = body-within e k l in
-        one_byte _ (bytes_at f (entry_at k) a)
-        then two_bytes_lem _ (omega (arith, offset-is f k h, e.offset k l, within, fit.few))
-        then two_bytes_lem _ (omega (arith, length-of f k h, within, fit.few))
+        let within = body_within e k l in
+        one_byte _ (bytes_at_lem f (entry_at k) a)
+        then two_bytes_lem _ (omega (arith, offset_is f k h, e.offset k l, within, fit.few))
+        then two_bytes_lem _ (omega (arith, length_of_lem f k h, within, fit.few))
 
-    octets-rests : WellFormed f → Sized f → Octets (with_rests f)
+    octets_rests : WellFormed f → Sized f → Octets (with_rests f)
     unfolding with_rests
-    octets-rests wf sz =
+    octets_rests wf sz =
         let z = sizes_of f in
         let marked : Octets (mark true) = record { all = (omega arith, (omega arith, (omega arith, (omega arith, tt)))) } in
         marked
-        then one_byte (count_of f) (bytes_at f 4 a)
-        then octets_join (entry_bytes f) (count_of f) (octets-entry wf sz)
+        then one_byte (count_of f) (bytes_at_lem f 4 a)
+        then octets_join (entry_bytes f) (count_of f) (octets_entry wf sz)
         then stretch (length_of f 0) (start_of f 0)
-        then octets_join (state_bytes f z) z.states octets-state
+        then octets_join (state_bytes f z) z.states octets_state
         then stretch (length_of f 2) (start_of f 2)
-        then octets_join (rest_text f z) z.states (λ s h. octets_negated (texts-from z s z.evolutions))
+        then octets_join (rest_text f z) z.states (λ s h. octets_negated (texts_from z s z.evolutions))
         then record { all = bytes_drop (start_of f 3) f a }
 
 -- ---- of a file that is read
@@ -132,4 +132,4 @@ bytes_stable (x ∷ xs) n = (by (dec_lt x (2 ^ 8)), bytes_stable xs (λ m. n (λ
 
 pub read_bytes : {f table words : List ℕ} {room : ℕ} {r : Contents} {t w : List ℕ}
     → Bytes f → ReadHere f table words room r t w → Past 3 r.answer.number → Fits f → Bytes (with_rests f)
-read_bytes {f} a u past fit = bytes_stable (with_rests f) (λ n. formed-not u past (λ x. n (octets-rests f a fit x.0 x.1).all))
+read_bytes {f} a u past fit = bytes_stable (with_rests f) (λ n. formed_not u past (λ x. n (octets_rests f a fit x.0 x.1).all))

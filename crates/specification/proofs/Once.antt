@@ -27,17 +27,17 @@ use Rattle.specification.proofs.Settling.{same_move}
 
 module _ {file table words : List ℕ} {room : ℕ} {r : Contents} {t w : List ℕ} (u : ReadHere file table words room r t w) where
   -- a file that is read has no couple at which two rules hold
-  pub no-two-rules : r.answer.number ≡ 0 → None (TwoRules file (sizes_of file) (settings (sizes_of file)))
-  no-two-rules e = (judged_passes 13 u.verdict refl e).1.1.1.1.1.1.1.1.1.0
+  pub no_two_rules : r.answer.number ≡ 0 → None (TwoRules file (sizes_of file) (settings (sizes_of file)))
+  no_two_rules e = (judged_passes 13 u.verdict refl e).1.1.1.1.1.1.1.1.1.0
 
   few : (r.answer.number ≡ 0) ⊎ (14 ≤ r.answer.number) → r.answer.number ≡ 0
   few = ⊎_elim (λ e. e) (λ h. absurd (let k = judged_number 1 13 u.verdict refl (λ e. omega arith) in omega (arith, k.1)))
 
-  one-move : (r.answer.number ≡ 0) ⊎ (14 ≤ r.answer.number) → (p x y : ℕ) → p < couples (sizes_of file)
+  one_move : (r.answer.number ≡ 0) ⊎ (14 ≤ r.answer.number) → (p x y : ℕ) → p < couples (sizes_of file)
       → MoveAt file (sizes_of file) (settings (sizes_of file)) p x → MoveAt file (sizes_of file) (settings (sizes_of file)) p y → x ≡ y
-  one-move e p x y h f g =
+  one_move e p x y h f g =
       let k = couple_of p (pow_pos (sizes_of file).inputs) h in
-      same_move file (sizes_of file) (no-two-rules (few e)) k (f.move _ _ k) (g.move _ _ k)
+      same_move file (sizes_of file) (no_two_rules (few e)) k (f.move _ _ k) (g.move _ _ k)
 
 -- what is answered on success is one
 pub contents_only : {file : List ℕ} {z : Sizes} (r q : Contents) → ContentsOf file z r → ContentsOf file z q → r.answer ≡ q.answer → r.character ≡ q.character → r ≡ q
@@ -54,17 +54,17 @@ module _ {file table words : List ℕ} {room : ℕ} {r q : Contents} {t t' w w' 
   same_number : r.answer.number ≡ q.answer.number
   same_number = ap (λ (a : Answer). a.number) same_answer
 
-  same-character : r.character ≡ q.character
-  same-character = character_for_only u.character (rw (sym same_answer) at v.character)
+  same_character : r.character ≡ q.character
+  same_character = character_for_only u.character (rw (sym same_answer) at v.character)
 
   same_contents : Dec (r.answer.number ≡ 0) → r ≡ q
-  same_contents (yes e) = contents_only r q (u.done e) (v.done (sym same_number ∙ e)) same_answer same-character
-  same_contents (no n) = u.refused n ∙ ap₂ refusal_of same_answer same-character ∙ sym (v.refused (λ e. n (same_number ∙ e)))
+  same_contents (yes e) = contents_only r q (u.done e) (v.done (sym same_number ∙ e)) same_answer same_character
+  same_contents (no n) = u.refused n ∙ ap₂ refusal_of same_answer same_character ∙ sym (v.refused (λ e. n (same_number ∙ e)))
 
   pub only_here : (r ≡ q) × (t ≡ t') × (w ≡ w')
   only_here = (
     same_contents (ℕ_discrete r.answer.number 0),
-    left_unique (one-move u) u.table (rw (sym same_number) at v.table),
+    left_unique (one_move u) u.table (rw (sym same_number) at v.table),
     left_unique (λ _ c x y h f g. f ∙ sym g) u.words (rw (sym same_number) at v.words),
   )
 

@@ -9,7 +9,7 @@ use lib.ListN.{length}
 use Rattle.verdict.specs.Checks.{Passed, Judged}
 use Rattle.verdict.specs.declared.Answer.{Answer}
 use Rattle.verdict.proofs.Order.{judged_on, judged_stop, judged_number, judged_passes, roomy}
-use Rattle.verdict.proofs.Fills.{left-same}
+use Rattle.verdict.proofs.Fills.{left_same}
 use Rattle.specification.specs.File.{WellFormed}
 use Rattle.specification.specs.Records.{sizes_of, Sized}
 use Rattle.specification.specs.Reading.{shape_checks, refusal_of}
@@ -30,8 +30,8 @@ module _ (file table words : List ℕ) (room : ℕ) {s : Answer} (v : Judged (sh
           character = record { unread = λ e. absurd (omega (arith, b.1)); other = λ _. refl };
           refused = λ _. refl;
           done = λ h. absurd (n h);
-          table = left-same b.0 b.1;
-          words = left-same b.0 b.1;
+          table = left_same b.0 b.1;
+          words = left_same b.0 b.1;
         };
         fits = omega arith;
         hands = record {
@@ -44,8 +44,8 @@ module _ (file table words : List ℕ) (room : ℕ) {s : Answer} (v : Judged (sh
 
   -- refused by 4 to 13, or read
   module _ (e : s.number ≡ 0) {r : Core} {t w : List ℕ} where
-    late-at : Laid file (sizes_of file) → SoundAs file (sizes_of file) table words r.contents.answer t w → OutcomeAs file (sizes_of file) r.contents.answer r → CoreAs file table words room r t w
-    late-at l u o =
+    late_at : Laid file (sizes_of file) → SoundAs file (sizes_of file) table words r.contents.answer t w → OutcomeAs file (sizes_of file) r.contents.answer r → CoreAs file table words room r t w
+    late_at l u o =
         record {
           here = record {
             verdict = judged_on 3 v refl e u.judged;
@@ -66,4 +66,4 @@ module _ (file table words : List ℕ) (room : ℕ) {s : Answer} (v : Judged (sh
 
     pub late : {z : Sizes} {a : Answer} → WellFormed file × Sized file × (z ≡ sizes_of file) → SoundAs file z table words a t w → OutcomeAs file z a r → CoreAs file table words room r t w
     late s u o =
-        late-at (laid file s.0 s.1) (subst₂ (λ z a. SoundAs file z table words a t w) s.2 (sym o.answer) u) (subst₂ (λ z a. OutcomeAs file z a r) s.2 (sym o.answer) o)
+        late_at (laid file s.0 s.1) (subst₂ (λ z a. SoundAs file z table words a t w) s.2 (sym o.answer) u) (subst₂ (λ z a. OutcomeAs file z a r) s.2 (sym o.answer) o)

@@ -6,7 +6,7 @@ use native.Mathlib.Omega.{arith}
 use lib.ListN.{length, get_or, take, drop, length-append, length-take, length-drop, get_or-append}
 use lib.Seq.{get_or-take, get_or-drop, drop-drop, drop-append_seam}
 use Rattle.verdict.specs.Below.{join_to}
-use Rattle.verdict.proofs.Below.{join-at}
+use Rattle.verdict.proofs.Below.{join_at}
 use Rattle.specification.specs.File.{two_at}
 use Rattle.specification.specs.Rests.{two_bytes}
 
@@ -26,8 +26,8 @@ module _ {w : List ℕ} {a : ℕ} where
   pub byte_at : {l : List ℕ} (i n : ℕ) → From w a l → n ≡ a + i → get_or w n 0 ≡ get_or l i 0
   byte_at i n d e = ap (λ n. get_or w n 0) e ∙ sym (get_or-drop a w i 0) ∙ ap (λ l. get_or l i 0) d.is
 
-  pub two_at : (n : ℕ) (u : List ℕ) → From w a (two_bytes n ++ u) → two_at w a ≡ n
-  two_at n u d = omega (arith, byte_at 0 a d (omega arith), byte_at 1 (a + 1) d refl)
+  pub two_at_lem : (n : ℕ) (u : List ℕ) → From w a (two_bytes n ++ u) → two_at w a ≡ n
+  two_at_lem n u d = omega (arith, byte_at 0 a d (omega arith), byte_at 1 (a + 1) d refl)
 
   -- a stretch of another list that stands at the same place
   pub kept : (v ys : List ℕ) (n : ℕ) → From w a (take n (drop a v) ++ ys) → a + n ≤ length v → (i : ℕ) → a ≤ i → i < a + n → get_or w i 0 ≡ get_or v i 0
@@ -42,4 +42,4 @@ module _ {w : List ℕ} {a : ℕ} where
 -- one of the pieces stands where those before it end
 pub piece_at : (f : ℕ → List ℕ) {w : List ℕ} {a : ℕ} (n : ℕ) (v : List ℕ) → From w a (join_to f n ++ v) → (k b : ℕ) → k < n → b ≡ a + length (join_to f k)
     → (u : List ℕ) × From w b (f k ++ u)
-piece_at f {w} {a} n v d k b h e = let (u, q) = join-at f n k v h in (u, after b (join_to f k) (f k ++ u) (subst (From w a) q d) e)
+piece_at f {w} {a} n v d k b h e = let (u, q) = join_at f n k v h in (u, after b (join_to f k) (f k ++ u) (subst (From w a) q d) e)

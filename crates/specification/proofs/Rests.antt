@@ -18,11 +18,11 @@ use Rattle.specification.specs.Rules.{text_of, conditions, condition_of, Unreads
 use Rattle.specification.specs.Rests.{conditions_from, rest_text, Nested}
 use Rattle.specification.specs.inner.Private.{Laid}
 use Rattle.specification.specs.declared.records.Sizes.{Sizes}
-use Rattle.specification.proofs.Conditions.{condition-there, condition-record, condition-body}
-use Rattle.specification.proofs.Forms.{of-text, of-rest}
+use Rattle.specification.proofs.Conditions.{condition_there, condition_record, condition_body}
+use Rattle.specification.proofs.Forms.{of_text, of_rest}
 use Rattle.specification.proofs.Rewritten.{rested, shares_back, Rewritten}
 use Rattle.specification.proofs.Carried.{Carries}
-use Rattle.specification.proofs.Sums.{Means, means-map, means-negated, means-reads, means-holds, holds-means}
+use Rattle.specification.proofs.Sums.{Means, means_map, means_negated, means_reads, means_holds, holds_means}
 
 -- t is the condition of an evolution from s
 record Leaving (file : List ℕ) (z : Sizes) (s : ℕ) (t : List ℕ) : Type 0 where
@@ -58,58 +58,58 @@ pub record AllRead (file : List ℕ) (z : Sizes) : Type 0 where
 
 module _ {file : List ℕ} {z : Sizes} (a : AllRead file z) (v s : ℕ) where
   -- the rest condition says that no evolution from s holds
-  rest-means : Means z.inputs v (rest_text file z s) (Idle file z s v)
-  rest-means = means-map
+  rest_means : Means z.inputs v (rest_text file z s) (Idle file z s v)
+  rest_means = means_map
       (λ n. record { none = λ r k e. n (text_of file z r) (lists file z s z.evolutions r k.after k.below e) })
       (λ i t m h. let x = listed file z s z.evolutions (omega arith) m in i.none x.evolution x.evolves x.from (subst (Holds z.inputs v) x.is h))
-      (means-negated (conditions_from file z s z.evolutions) (λ t m.
+      (means_negated (conditions_from file z s z.evolutions) (λ t m.
       let x = listed file z s z.evolutions (omega arith) m in subst (Reads z.inputs) (sym x.is) (a.reads x.evolution x.evolves)))
 
-  rest-reads : Nested file z s → Reads z.inputs (rest_text file z s)
-  rest-reads = means-reads rest-means
+  rest_reads : Nested file z s → Reads z.inputs (rest_text file z s)
+  rest_reads = means_reads rest_means
 
-  idle-holds : Nested file z s → Idle file z s v → Holds z.inputs v (rest_text file z s)
-  idle-holds = means-holds rest-means
+  idle_holds : Nested file z s → Idle file z s v → Holds z.inputs v (rest_text file z s)
+  idle_holds = means_holds rest_means
 
-  holds-idle : Holds z.inputs v (rest_text file z s) → Idle file z s v
-  holds-idle = holds-means rest-means
+  holds_idle : Holds z.inputs v (rest_text file z s) → Idle file z s v
+  holds_idle = holds_means rest_means
 
 -- a file f, and g with rest conditions
 module _ {f g : List ℕ} {z : Sizes} (l : Laid f z) (w : Rewritten f g z) where
   -- the conditions of the evolutions and of kinds 5 and 6 are the same, so that one that does not read in f does not in g
-  condition-same : (r : ℕ) → z.states ≤ r → r < conditions z → condition_of g (rested z) r ≡ condition_of f z r
-  condition-same r a b = ⊎_elim
-      (λ h. condition-record g (rested z) r h ∙ w.texts r a h ∙ sym (condition-record f z r h))
-      (λ h. condition-body g (rested z) r h ∙ w.shares.bodies _ (omega arith) (condition-there l r h b) ∙ sym (condition-body f z r h))
+  condition_same : (r : ℕ) → z.states ≤ r → r < conditions z → condition_of g (rested z) r ≡ condition_of f z r
+  condition_same r a b = ⊎_elim
+      (λ h. condition_record g (rested z) r h ∙ w.texts r a h ∙ sym (condition_record f z r h))
+      (λ h. condition_body g (rested z) r h ∙ w.shares.bodies _ (omega arith) (condition_there l r h b) ∙ sym (condition_body f z r h))
       (below_or r (records z))
 
   pub unreads : (r : ℕ) → Unreads f z r → Unreads g (rested z) r
-  unreads r u = record { below = u.below; worded = omega arith; unread = λ y. u.unread (subst (Reads z.inputs) (condition-same r (omega (arith, w.worded, u.worded)) u.below) y) }
+  unreads r u = record { below = u.below; worded = omega arith; unread = λ y. u.unread (subst (Reads z.inputs) (condition_same r (omega (arith, w.worded, u.worded)) u.below) y) }
 
   -- where the evolutions' conditions read, the rest conditions do too, and each record holds in one exactly if it does in the other
   module _ (a : AllRead f z) (nested : (s : ℕ) → s < z.states → Nested f z s) where
-    unreads-back : (r : ℕ) → Unreads g (rested z) r → Unreads f z r
-    unreads-back r u = ⊎_elim
-        (λ h. absurd (u.unread (subst (Reads z.inputs) (sym (condition-record g (rested z) r (omega arith) ∙ w.rests r h)) (rest-reads a 0 r (nested r h)))))
-        (λ k. record { below = u.below; worded = omega (arith, w.worded); unread = λ y. u.unread (subst (Reads z.inputs) (sym (condition-same r k u.below)) y) })
+    unreads_back : (r : ℕ) → Unreads g (rested z) r → Unreads f z r
+    unreads_back r u = ⊎_elim
+        (λ h. absurd (u.unread (subst (Reads z.inputs) (sym (condition_record g (rested z) r (omega arith) ∙ w.rests r h)) (rest_reads a 0 r (nested r h)))))
+        (λ k. record { below = u.below; worded = omega (arith, w.worded); unread = λ y. u.unread (subst (Reads z.inputs) (sym (condition_same r k u.below)) y) })
         (below_or r z.states)
 
     holds : (v r : ℕ) → r < records z → HoldsAt f z v r → HoldsAt g (rested z) v r
     holds v r b x = by_text (omega arith) (⊎_elim
-        (λ h. subst (Holds z.inputs v) (sym (w.rests r h)) (idle-holds a v r (nested r h) (of-rest (omega (arith, w.worded)) x)))
-        (λ k. subst (Holds z.inputs v) (sym (w.texts r k b)) (of-text (omega (arith, w.worded)) x))
+        (λ h. subst (Holds z.inputs v) (sym (w.rests r h)) (idle_holds a v r (nested r h) (of_rest (omega (arith, w.worded)) x)))
+        (λ k. subst (Holds z.inputs v) (sym (w.texts r k b)) (of_text (omega (arith, w.worded)) x))
         (below_or r z.states))
 
-    holds-back : (v r : ℕ) → r < records z → HoldsAt g (rested z) v r → HoldsAt f z v r
-    holds-back v r b x =
-        let t = of-text (omega arith) x in
+    holds_back : (v r : ℕ) → r < records z → HoldsAt g (rested z) v r → HoldsAt f z v r
+    holds_back v r b x =
+        let t = of_text (omega arith) x in
         ⊎_elim
-        (λ h. by_rest (omega (arith, w.worded)) (holds-idle a v r (subst (Holds z.inputs v) (w.rests r h) t)))
+        (λ h. by_rest (omega (arith, w.worded)) (holds_idle a v r (subst (Holds z.inputs v) (w.rests r h) t)))
         (λ k. by_text (omega (arith, w.worded)) (subst (Holds z.inputs v) (w.texts r k b) t))
         (below_or r z.states)
 
     pub carries : Carries z f z.worded g 0
     carries = record { shares = w.shares; unreads = unreads; holds = holds }
 
-    pub carries-back : Carries z g 0 f z.worded
-    carries-back = record { shares = shares_back w.shares; unreads = unreads-back; holds = holds-back }
+    pub carries_back : Carries z g 0 f z.worded
+    carries_back = record { shares = shares_back w.shares; unreads = unreads_back; holds = holds_back }

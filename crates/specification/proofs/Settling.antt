@@ -13,7 +13,7 @@ use Rattle.verdict.specs.Buffers.{Filled}
 use Rattle.verdict.specs.declared.Answer.{Answer}
 use Rattle.verdict.specs.declared.Found.{Found}
 use Rattle.verdict.specs.declared.Found.TheVariants.{Nothing}
-use Rattle.verdict.proofs.Order.{judged_passes, judged-row}
+use Rattle.verdict.proofs.Order.{judged_passes, judged_row}
 use Rattle.verdict.proofs.Tests.{decides_is, decides_not, ◌also◌, found_none}
 use Rattle.machine.specs.Couples.{Couple}
 use Rattle.machine.specs.Moves.{table_moves, Stateless, SameWord, Start}
@@ -21,7 +21,7 @@ use Rattle.machine.specs.Runs.{startable, machine_of, Starts}
 use Rattle.machine.specs.declared.Frame.{Frame}
 use Rattle.machine.proofs.Order.{below_or, equal_or}
 use Rattle.machine.proofs.Couples.{couple_of, couple_below}
-use Rattle.machine.proofs.Same.{Into, transient-into, unreached_into, start-into}
+use Rattle.machine.proofs.Same.{Into, transient_into, unreached_into, start_into}
 use Rattle.tables.specs.Tables.{Tabled}
 use Rattle.specification.specs.Limits.{blank_move}
 use Rattle.specification.specs.Records.{settings, couples, records, word, Beyond, target_beyond}
@@ -30,27 +30,27 @@ use Rattle.specification.specs.Reading.{move_checks}
 use Rattle.specification.specs.inner.Private.{Laid, Noted, filled_checks}
 use Rattle.specification.specs.declared.records.Sizes.{Sizes}
 use Rattle.specification.proofs.Framing.{framed, framed_is}
-use Rattle.specification.proofs.Firing.{leads-state, leads-evolution}
+use Rattle.specification.proofs.Firing.{leads_state, leads_evolution}
 
 module _ (file : List ℕ) (z : Sizes) where
   -- rules lead to states, by check 4
-  pub leads-below : None (Beyond file z) → (r : ℕ) → r < records z → leads_to file z r < z.states
-  leads-below n r h = ⊎_elim
-      (λ l. omega (arith, leads-state file z r l))
+  pub leads_below : None (Beyond file z) → (r : ℕ) → r < records z → leads_to file z r < z.states
+  leads_below n r h = ⊎_elim
+      (λ l. omega (arith, leads_state file z r l))
       (λ k.
-      let g : z.states ≤ leads_to file z r → ⊥ = λ b. n.nowhere r (target_beyond (record { after = k; below = h }) (omega (arith, leads-evolution file z r k))) in
+      let g : z.states ≤ leads_to file z r → ⊥ = λ b. n.nowhere r (target_beyond (record { after = k; below = h }) (omega (arith, leads_evolution file z r k))) in
       omega arith)
       (below_or r z.states)
 
   -- at most one rule holds, by check 8
-  pub same-rule : {m s v p : ℕ} → None (TwoRules file z m) → Couple z.states m s v p → (q r : ℕ) → Fires file z s v q → Fires file z s v r → q ≡ r
-  same-rule n k q r f g =
+  pub same_rule : {m s v p : ℕ} → None (TwoRules file z m) → Couple z.states m s v p → (q r : ℕ) → Fires file z s v q → Fires file z s v r → q ≡ r
+  same_rule n k q r f g =
       let a : q < r → ⊥ = λ l. n.nowhere _ (record { couple = k; two = record { differ = l; one = f; other = g; low = _; high = _ }; s = _; v = _ }) in
       let b : r < q → ⊥ = λ l. n.nowhere _ (record { couple = k; two = record { differ = l; one = g; other = f; low = _; high = _ }; s = _; v = _ }) in
       omega arith
 
   pub same_move : {m s v p x y : ℕ} → None (TwoRules file z m) → Couple z.states m s v p → Moves file z s v x → Moves file z s v y → x ≡ y
-  same_move n k a b = sym a.leads ∙ ap (leads_to file z) (same-rule n k _ _ a.fires b.fires) ∙ b.leads
+  same_move n k a b = sym a.leads ∙ ap (leads_to file z) (same_rule n k _ _ a.fires b.fires) ∙ b.leads
 
 -- rules that lead to states, no two of which hold at a couple, and the table of their moves
 pub record Ruled (file : List ℕ) (z : Sizes) (table : List ℕ) : Type 0 where
@@ -66,33 +66,33 @@ module _ {file : List ℕ} {z : Sizes} {table : List ℕ} (t : Ruled file z tabl
   here : (s v : ℕ) → s < z.states → v < settings z → Moves file z s v (get_or table (s * settings z + v) 0)
   here s v h k = (t.moves _ (digits_lt h k)).move s v (record { state = h; setting = k; number = refl })
 
-  pub table-into : Into z.states (settings z) (table_moves table (settings z)) (Moves file z)
-  table-into =
+  pub table_into : Into z.states (settings z) (table_moves table (settings z)) (Moves file z)
+  table_into =
       record {
         to = λ s v x h k e. subst (Moves file z s v) e (here s v h k);
         inside = λ s v x h k e. below (subst (Moves file z s v) e (here s v h k));
       }
 
-  pub into-table : Into z.states (settings z) (Moves file z) (table_moves table (settings z))
-  into-table =
+  pub into_table : Into z.states (settings z) (Moves file z) (table_moves table (settings z))
+  into_table =
       record {
         to = λ s v x h k y. same_move file z t.single (record { state = h; setting = k; number = refl }) (here s v h k) y;
         inside = λ s v x h k y. below y;
       }
 
-  pub states-only : (p : ℕ) → p < couples z → get_or table p 0 < z.states
-  states-only p l = below ((t.moves p l).move _ _ (couple_of p (pow_pos z.inputs) l))
+  pub states_only : (p : ℕ) → p < couples z → get_or table p 0 < z.states
+  states_only p l = below ((t.moves p l).move _ _ (couple_of p (pow_pos z.inputs) l))
 
   -- and so are its starts, with the sets of its frame
   module _ {f : Frame} (x : FrameOf file z f) (i : z.initial < z.states) where
-    decides-may : (v : ℕ) → v < settings z → Decides (MayStart file z v) (startable f v)
-    decides-may v h = x.starts.each v h also decides_not (x.never.each v h)
+    decides_may : (v : ℕ) → v < settings z → Decides (MayStart file z v) (startable f v)
+    decides_may v h = x.starts.each v h also decides_not (x.never.each v h)
 
-    pub start-there : (v : ℕ) × Start (Moves file z) (MayStart file z) (settings z) z.initial v → (v : ℕ) × Starts (machine_of (framed z f.never f.starts) table) v
-    start-there s = (s.0, start-into into-table (decides_is (decides-may s.0 s.1.below)) i s.1)
+    pub start_there : (v : ℕ) × Start (Moves file z) (MayStart file z) (settings z) z.initial v → (v : ℕ) × Starts (machine_of (framed z f.never f.starts) table) v
+    start_there s = (s.0, start_into into_table (decides_is (decides_may s.0 s.1.below)) i s.1)
 
     start_back : (v : ℕ) × Starts (machine_of (framed z f.never f.starts) table) v → (v : ℕ) × Start (Moves file z) (MayStart file z) (settings z) z.initial v
-    start_back s = (s.0, start-into table-into (decides-may s.0 s.1.below).holds i s.1)
+    start_back s = (s.0, start_into table_into (decides_may s.0 s.1.below).holds i s.1)
 
 -- what the scan leaves where no two rules hold, and the words of the states
 pub record Settled (file : List ℕ) (z : Sizes) (table words : List ℕ) : Type 0 where
@@ -116,7 +116,7 @@ scanned {file} {z} {a = a} {b} {x} k f = subst (λ (m : ℕ). Finds (TwoRules fi
 
 pub settled : {file : List ℕ} {z : Sizes} {a b u w : List ℕ} {x : Found} → Laid file z → None (Beyond file z) → x ≡ Nothing
     → Finds (TwoRules file z (settings z)) x × Filled (couples z) (λ p y. x ≡ Nothing → Noted file z (settings z) p y) a b → Filled z.states (λ s y. y ≡ word file z s) u w → Settled file z b w
-settled {file} {z} l n e f g = record { laid = l; leads = leads-below file z n; single = found_none f.0 e; noted = λ p h. f.1.needed p h e; named = g.needed }
+settled {file} {z} l n e f g = record { laid = l; leads = leads_below file z n; single = found_none f.0 e; noted = λ p h. f.1.needed p h e; named = g.needed }
 
 -- states with other words of the same numbers
 pub same_words : {u w : ℕ → ℕ} {states : ℕ} → ((s : ℕ) → s < states → u s ≡ w s) → (s : ℕ) → SameWord u states s → SameWord w states s
@@ -126,24 +126,24 @@ same_words e s x =
 
 module _ {file : List ℕ} {z : Sizes} {table words : List ℕ} (t : Settled file z table words) where
   -- a byte is the blank, or the move
-  blank-or : (p : ℕ) → p < couples z → (get_or table p 0 ≡ blank_move) ⊎ MoveAt file z (settings z) p (get_or table p 0)
-  blank-or p h = ⊎_elim inl (λ n. inr ((t.noted p h).some n)) (equal_or (get_or table p 0) blank_move)
+  blank_or : (p : ℕ) → p < couples z → (get_or table p 0 ≡ blank_move) ⊎ MoveAt file z (settings z) p (get_or table p 0)
+  blank_or p h = ⊎_elim inl (λ n. inr ((t.noted p h).some n)) (equal_or (get_or table p 0) blank_move)
 
   -- refusal 9: it is no state exactly where there is no rule
-  stateless-to : (p : ℕ) → Stateless table z.states (settings z) p → NoRule file z (settings z) p
-  stateless-to p x =
+  stateless_to : (p : ℕ) → Stateless table z.states (settings z) p → NoRule file z (settings z) p
+  stateless_to p x =
       let k = x.couple in
       let h = couple_below k in
       ⊎_elim (λ e. record { s = x.s; v = x.v; couple = k; none = (t.noted p h).none e _ _ k })
       (λ y. let y = y.move _ _ k in let g = t.leads _ y.fires.below in let b = x.beyond in absurd (omega (arith, y.leads)))
-      (blank-or p h)
+      (blank_or p h)
 
-  to-stateless : (p : ℕ) → NoRule file z (settings z) p → Stateless table z.states (settings z) p
-  to-stateless p x =
+  to_stateless : (p : ℕ) → NoRule file z (settings z) p → Stateless table z.states (settings z) p
+  to_stateless p x =
       let k = x.couple in
       ⊎_elim (λ e. record { s = x.s; v = x.v; couple = k; beyond = omega (arith, t.laid.ranges.few_states) })
       (λ y. absurd (x.none _ (y.move _ _ k).fires))
-      (blank-or p (couple_below k))
+      (blank_or p (couple_below k))
 
   -- where each couple has a rule the bytes are the moves
   pub ruled : None (NoRule file z (settings z)) → Ruled file z table
@@ -153,23 +153,23 @@ module _ {file : List ℕ} {z : Sizes} {table words : List ℕ} (t : Settled fil
         single = t.single;
         moves = λ p h.
             let k = couple_of p (pow_pos z.inputs) h in
-            ⊎_elim (λ e. absurd (some.nowhere p (record { couple = k; none = (t.noted p h).none e _ _ k; s = _; v = _ }))) (λ y. y) (blank-or p h);
+            ⊎_elim (λ e. absurd (some.nowhere p (record { couple = k; none = (t.noted p h).none e _ _ k; s = _; v = _ }))) (λ y. y) (blank_or p h);
       }
 
   -- so the checks of the table and the words are those of the file
   pub carried : {a : Answer} {f : Frame} → FrameOf file z f → Judged (filled_checks (machine_of f table) words) Passed a → Judged (move_checks file z) Passed a
   carried {a} {f} x v =
       let i = t.laid.ranges.begins in
-      judged-row stateless-to to-stateless (λ some.
+      judged_row stateless_to to_stateless (λ some.
       let r = ruled some in
-      judged-row (transient-into (table-into r) (into-table r)) (transient-into (into-table r) (table-into r)) (λ _.
-      judged-row (same_words t.named) (same_words (λ s h. sym (t.named s h))) (λ _.
-      judged-row (unreached_into (into-table r) i) (unreached_into (table-into r) i) (λ _.
-      judged-row (λ p u. (u.0, λ s. u.1 (start-there r x i s))) (λ p u. (u.0, λ s. u.1 (start_back r x i s))) (λ _ v. v)))))
+      judged_row (transient_into (table_into r) (into_table r)) (transient_into (into_table r) (table_into r)) (λ _.
+      judged_row (same_words t.named) (same_words (λ s h. sym (t.named s h))) (λ _.
+      judged_row (unreached_into (into_table r) i) (unreached_into (table_into r) i) (λ _.
+      judged_row (λ p u. (u.0, λ s. u.1 (start_there r x i s))) (λ p u. (u.0, λ s. u.1 (start_back r x i s))) (λ _ v. v)))))
       (subst (λ (f : Frame). Judged (filled_checks (machine_of f table) words) Passed a) (framed_is x) v)
 
   -- and where they pass, the buffer is filled with the moves
-  pub moves-left : {a : List ℕ} {r : Answer} {P : ℕ → ℕ → Type 0} → Judged (move_checks file z) Passed r → Filled (couples z) P a table
+  pub moves_left : {a : List ℕ} {r : Answer} {P : ℕ → ℕ → Type 0} → Judged (move_checks file z) Passed r → Filled (couples z) P a table
       → Filled (couples z) (λ p x. r.number ≡ 0 → MoveAt file z (settings z) p x) a table
-  moves-left v f =
+  moves_left v f =
       record { same_length = f.same_length; needed = λ p h e. (ruled (judged_passes 13 v refl e).0).moves p h; beyond = f.beyond }

@@ -12,9 +12,9 @@ use Rattle.specification.specs.File.{mark, rests_of, count_of, kinds, length_of,
 use Rattle.specification.specs.Records.{sizes_of, records, text_length, Ranges, Sized}
 use Rattle.specification.specs.Rests.{grown, with_rests}
 use Rattle.specification.specs.declared.records.Sizes.{Sizes}
-use Rattle.specification.proofs.Forms.{all-worded}
+use Rattle.specification.proofs.Forms.{all_worded}
 use Rattle.specification.proofs.Rewritten.{rested}
-use Rattle.specification.proofs.Places.{count_is, kind-is, offset-is, length-of, start_is, all_grown, length-same, length-is, size_same, texts-before}
+use Rattle.specification.proofs.Places.{count_is, kind_is, offset_is, length_of_lem, start_is, all_grown, length_same, length_is, size_same, texts_before}
 
 module _ (f : List ℕ) where
   abbrev z : Sizes
@@ -33,7 +33,7 @@ module _ (f : List ℕ) where
 
   module _ (wf : WellFormed f) (sz : Sized f) where
     lengths : (k : ℕ) → k < kinds → length_of g k ≡ length_of f k + grown f k
-    lengths k h = length-of f k (omega (arith, wf.headed.count))
+    lengths k h = length_of_lem f k (omega (arith, wf.headed.count))
 
     -- ---- check 1
     pub formed : length g ≤ most_bytes → WellFormed g
@@ -44,16 +44,16 @@ module _ (f : List ℕ) where
             few = few;
             marked = marked;
             count = omega (arith, count_is f, wf.headed.count);
-            enough = omega (arith, count_is f, length-is f wf sz, wf.headed.enough);
+            enough = omega (arith, count_is f, length_is f wf sz, wf.headed.enough);
           };
           entries = record {
-            always = λ k h. kind-is f k (omega (arith, wf.headed.count)) ∙ wf.entries.always k h;
-            rising = λ k h. let l = within (suc k) h in omega (arith, kind-is f k (omega arith), kind-is f (suc k) l, wf.entries.rising k l);
-            known = λ k h. let l = within k h in omega (arith, kind-is f k l, wf.entries.known k l);
-            offset = λ k h. let l = within k h in omega (arith, offset-is f k l, wf.entries.offset k l, start_is f k (omega arith));
+            always = λ k h. kind_is f k (omega (arith, wf.headed.count)) ∙ wf.entries.always k h;
+            rising = λ k h. let l = within (suc k) h in omega (arith, kind_is f k (omega arith), kind_is f (suc k) l, wf.entries.rising k l);
+            known = λ k h. let l = within k h in omega (arith, kind_is f k l, wf.entries.known k l);
+            offset = λ k h. let l = within k h in omega (arith, offset_is f k l, wf.entries.offset k l, start_is f k (omega arith));
             ends =
                 ap (start_of g) (count_is f)
-                ∙ omega (arith, start_is f (count_of f) (omega arith), all_grown f (count_of f) wf.headed.count, wf.entries.ends, length-is f wf sz);
+                ∙ omega (arith, start_is f (count_of f) (omega arith), all_grown f (count_of f) wf.headed.count, wf.entries.ends, length_is f wf sz);
           };
           measured = record {
             sizes = omega (arith, lengths 0 (omega arith), wf.measured.sizes);
@@ -63,9 +63,9 @@ module _ (f : List ℕ) where
         }
 
     -- ---- the sizes
-    pub sizes-are : sizes_of g ≡ rested z
+    pub sizes_are : sizes_of g ≡ rested z
     unfolding start_of sum_to
-    sizes-are =
+    sizes_are =
         let start = start_is f 0 (omega arith) in
         let same = size_same f wf sz in
         let inputs : (sizes_of g).inputs ≡ z.inputs = same (start_of g 0) (start_of f 0) (omega arith) (omega arith) (omega arith) in
@@ -84,7 +84,7 @@ module _ (f : List ℕ) where
           evolutions = evolutions i;
           first = first i;
           more = more i;
-          worded = all-worded g rests i;
+          worded = all_worded g rests i;
         }
 
     -- ---- check 2
@@ -105,12 +105,12 @@ module _ (f : List ℕ) where
     pub sized : rests_of f ≡ false → Sized g
     sized without =
         let states : length_of g 1 ≡ 3 * z.states = omega (arith, lengths 1 (omega arith), sz.states) in
-        let before = texts-before f wf sz without (records z) (omega arith) (omega arith) in
+        let before = texts_before f wf sz without (records z) (omega arith) (omega arith) in
         let texts : sum_to (text_length g z) (records z) ≡ length_of g 3 = omega (arith, before, sz.texts, lengths 3 (omega arith)) in
         record {
-          ranges = subst Ranges (sym sizes-are) ranges;
-          states = subst (λ y. length_of g 1 ≡ 3 * y.states) (sym sizes-are) states;
-          empty = λ s h. absurd (omega (arith, all-worded g rests));
-          texts = ap (λ y. sum_to (text_length g y) (records y)) sizes-are ∙ texts;
-          bodies = λ k l h. let m : k < count_of f = omega (arith, count_is f) in omega (arith, length-same f k l m, sz.bodies k l m);
+          ranges = subst Ranges (sym sizes_are) ranges;
+          states = subst (λ y. length_of g 1 ≡ 3 * y.states) (sym sizes_are) states;
+          empty = λ s h. absurd (omega (arith, all_worded g rests));
+          texts = ap (λ y. sum_to (text_length g y) (records y)) sizes_are ∙ texts;
+          bodies = λ k l h. let m : k < count_of f = omega (arith, count_is f) in omega (arith, length_same f k l m, sz.bodies k l m);
         }

@@ -49,24 +49,24 @@ module _ {n v : ℕ} where
         says = ap (holds v t ||◌) x.says ∙ sym (or_assoc (holds v t) (holds v t') (holds v u));
       }
 
-  pub means-map : {w : List ℕ} {P Q : Type 0} → (P → Q) → (Q → P) → Means n v w P → Means n v w Q
-  means-map f g x = record { tree = x.tree; spelt = x.spelt; known = x.known; says = decides_map f g x.says }
+  pub means_map : {w : List ℕ} {P Q : Type 0} → (P → Q) → (Q → P) → Means n v w P → Means n v w Q
+  means_map f g x = record { tree = x.tree; spelt = x.spelt; known = x.known; says = decides_map f g x.says }
 
   -- a text has one tree
-  same-tree : {w : List ℕ} (t : Tree condition) → text t ≡ w → Holds n v w → holds v t ≡ true
-  same-tree t e h = ap (holds v) (one_tree t h.reads.tree (e ∙ sym h.reads.spelt)) ∙ h.true_there
+  same_tree : {w : List ℕ} (t : Tree condition) → text t ≡ w → Holds n v w → holds v t ≡ true
+  same_tree t e h = ap (holds v) (one_tree t h.reads.tree (e ∙ sym h.reads.spelt)) ∙ h.true_there
 
   -- one condition, two joined by `+`, and a negated one
-  means-one : {w : List ℕ} → Reads n w → Means n v w (Holds n v w)
-  means-one x = record {
+  means_one : {w : List ℕ} → Reads n w → Means n v w (Holds n v w)
+  means_one x = record {
     tree = x.tree;
     spelt = x.spelt;
     known = x.known;
-    says = decides_map (λ e. record { reads = x; true_there = e }) (same-tree x.tree x.spelt) (decides_true (holds v x.tree));
+    says = decides_map (λ e. record { reads = x; true_there = e }) (same_tree x.tree x.spelt) (decides_true (holds v x.tree));
   }
 
-  means-plus : {w u : List ℕ} {P Q : Type 0} → Means n v w P → Means n v u Q → Means n v (w ++ code "+" ∷ u) (P ⊎ Q)
-  means-plus {P = P} {Q} x y =
+  means_plus : {w u : List ℕ} {P Q : Type 0} → Means n v w P → Means n v u Q → Means n v (w ++ code "+" ∷ u) (P ⊎ Q)
+  means_plus {P = P} {Q} x y =
       let z = plus x.tree y.tree in
       record {
         tree = z.tree;
@@ -75,39 +75,39 @@ module _ {n v : ℕ} where
         says = subst (Decides (P ⊎ Q)) (or_else (holds v x.tree) (holds v y.tree) ∙ sym z.says) (decides_either x.says y.says);
       }
 
-  means-not : {w : List ℕ} {P : Type 0} → Means n v w P → Means n v (code "!" ∷ code "(" ∷ w ++ code ")" ∷ []) (P → ⊥)
+  means_not : {w : List ℕ} {P : Type 0} → Means n v w P → Means n v (code "!" ∷ code "(" ∷ w ++ code ")" ∷ []) (P → ⊥)
   unfolding text Below holds
-  means-not x = record {
+  means_not x = record {
     tree = one (one (bang (paren x.tree)));
     spelt = ap (λ w. code "!" ∷ code "(" ∷ w ++ code ")" ∷ []) x.spelt;
     known = x.known;
     says = decides_not x.says;
   }
 
-  means-sum : (t : List ℕ) (us : List (List ℕ)) → ((u : List ℕ) → Memᴰ u (t ∷ us) → Reads n u) → Means n v (summed t us) (Some n v (t ∷ us))
-  means-sum t [] reads = means-map
+  means_sum : (t : List ℕ) (us : List (List ℕ)) → ((u : List ℕ) → Memᴰ u (t ∷ us) → Reads n u) → Means n v (summed t us) (Some n v (t ∷ us))
+  means_sum t [] reads = means_map
       (λ h. (t, Memᴰ.head refl, h))
       (λ x. subst (Holds n v) (Memᴰ.eq_of_singleton x.1) x.2)
-      (means-one (reads t (Memᴰ.head refl)))
-  means-sum t (u ∷ us) reads = means-map
+      (means_one (reads t (Memᴰ.head refl)))
+  means_sum t (u ∷ us) reads = means_map
       (⊎_elim (λ h. (t, Memᴰ.head refl, h)) (λ x. (x.0, Memᴰ.tail x.1, x.2)))
       (λ x. ⊎_elim (λ e. inl (subst (Holds n v) e x.2)) (λ m. inr (x.0, m, x.2)) (Memᴰ.cases_cons x.1))
-      (means-plus (means-one (reads t (Memᴰ.head refl))) (means-sum u us (λ w m. reads w (Memᴰ.tail m))))
+      (means_plus (means_one (reads t (Memᴰ.head refl))) (means_sum u us (λ w m. reads w (Memᴰ.tail m))))
 
   -- the negated sum says that none does
-  pub means-negated : (ts : List (List ℕ)) → ((t : List ℕ) → Memᴰ t ts → Reads n t) → Means n v (negated ts) ((t : List ℕ) → Memᴰ t ts → Holds n v t → ⊥)
+  pub means_negated : (ts : List (List ℕ)) → ((t : List ℕ) → Memᴰ t ts → Reads n t) → Means n v (negated ts) ((t : List ℕ) → Memᴰ t ts → Holds n v t → ⊥)
   unfolding text Below holds
-  means-negated [] reads = record { tree = one (one on); spelt = refl; known = tt; says = it_holds (λ t m _. Memᴰ.not-nil m) }
-  means-negated (t ∷ ts) reads = means-map (λ n t m h. n (t, m, h)) (λ n x. n x.0 x.1 x.2) (means-not (means-sum t ts reads))
+  means_negated [] reads = record { tree = one (one on); spelt = refl; known = tt; says = it_holds (λ t m _. Memᴰ.not-nil m) }
+  means_negated (t ∷ ts) reads = means_map (λ n t m h. n (t, m, h)) (λ n x. n x.0 x.1 x.2) (means_not (means_sum t ts reads))
 
   -- a text that means P, within the limit of parentheses, reads, and holds exactly where P
   module _ {w : List ℕ} {P : Type 0} (x : Means n v w P) (nested : (t : Tree condition) → text t ≡ w → opened t ≤ parentheses) where
-    pub means-reads : Reads n w
-    means-reads = record { tree = x.tree; spelt = x.spelt; nested = nested x.tree x.spelt; known = x.known }
+    pub means_reads : Reads n w
+    means_reads = record { tree = x.tree; spelt = x.spelt; nested = nested x.tree x.spelt; known = x.known }
 
-    pub means-holds : P → Holds n v w
-    unfolding means-reads
-    means-holds p = record { reads = means-reads; true_there = decides_is x.says p }
+    pub means_holds : P → Holds n v w
+    unfolding means_reads
+    means_holds p = record { reads = means_reads; true_there = decides_is x.says p }
 
-  pub holds-means : {w : List ℕ} {P : Type 0} → Means n v w P → Holds n v w → P
-  holds-means x h = x.says.holds (same-tree x.tree x.spelt h)
+  pub holds_means : {w : List ℕ} {P : Type 0} → Means n v w P → Holds n v w → P
+  holds_means x h = x.says.holds (same_tree x.tree x.spelt h)

@@ -16,12 +16,12 @@ use Rattle.verdict.specs.Below.{sum_to}
 use Rattle.specification.specs.Records.{sizes_of}
 use Rattle.specification.specs.Rules.{condition_of, rule_of, leads_to, TableOf, power_up, FrameOf}
 use Rattle.specification.specs.Before.{AnyStart}
-use Rattle.specification.proofs.Optional.{none_never, zero-allowed, any-allowed}
+use Rattle.specification.proofs.Optional.{none_never, zero_allowed, any_allowed}
 use Rattle.starred.specs.Files.{lamp_with, lamp_file, two_rules_file, gate_file, closed_gate_file}
 use Rattle.starred.specs.Rows.{lamp_table, gate_table, lamp_frame, gate_frame, Answered}
 use Rattle.starred.proofs.Machines.{lamp_sound, gate_sound}
 use Rattle.starred.proofs.Records.{none_of, none_same}
-use Rattle.starred.proofs.Rules.{spelling, fires, none-two, Ruled, ruled}
+use Rattle.starred.proofs.Rules.{spelling, fires, none_two, Ruled, ruled}
 use Rattle.starred.proofs.Reading.{Shaped, shape, shaped, succeeds, no_start}
 use Rattle.starred.proofs.Frames.{framed}
 
@@ -67,7 +67,7 @@ lamp_table_lem = record { whole = refl; each = lamp_ruled.moves }
 pub lamp_frame_lem : FrameOf lamp_file (sizes_of lamp_file) lamp_frame
 unfolding lamp_with start_of every
 lamp_frame_lem = framed lamp_file (lit≤ tt) (none_of lamp_file never_kind refl) 1 (lit< tt) (λ v. eqb v 0)
-    (λ v. decides_map (power_up (none_of lamp_file starts_kind refl)) (zero-allowed (none_of lamp_file starts_kind refl)) (decides_equal v 0)) refl
+    (λ v. decides_map (power_up (none_of lamp_file starts_kind refl)) (zero_allowed (none_of lamp_file starts_kind refl)) (decides_equal v 0)) refl
 
 -- the lamp with `1` as the rest of state 0
 abbrev two_trees : List (Tree condition)
@@ -97,7 +97,7 @@ two_refused = shaped two_shaped (halt (record {
       other = fires two_rules_file two_trees two_spelt 0 1 2 (lit< tt) refl;
     };
   };
-  first = none-two two_rules_file two_trees two_spelt 1 (0 ∷ []) refl;
+  first = none_two two_rules_file two_trees two_spelt 1 (0 ∷ []) refl;
 }))
 
 -- the gate: from states 0 and 1 to 0, `c.(b+a)+d.!b`; to 1, `!d.!b.!a`; to 2, `!c.(b+!d.a)`
@@ -157,7 +157,7 @@ gate_any = record { entry = 4; of = record { there = lit< tt; is = refl }; text 
 pub gate_read : Answered gate_file 0 0
 unfolding gate_file gate_table start_of every
 gate_read = succeeds gate_shaped _ gate_sound gate_ruled (none_same gate_file refl) gate_reached 5
-    (record { below = lit< tt; rests = refl; allowed = (any-allowed gate_any, none_never (none_of gate_file never_kind refl)) })
+    (record { below = lit< tt; rests = refl; allowed = (any_allowed gate_any, none_never (none_of gate_file never_kind refl)) })
 
 pub gate_moves : TableOf gate_file gate_table
 unfolding gate_file gate_table start_of
@@ -165,7 +165,7 @@ gate_moves = record { whole = refl; each = gate_ruled.moves }
 
 pub gate_frame_lem : FrameOf gate_file (sizes_of gate_file) gate_frame
 unfolding gate_file start_of every
-gate_frame_lem = framed gate_file (lit≤ tt) (none_of gate_file never_kind refl) (2 ^ 16 - 1) (lit< tt) (λ v. true) (λ v. it_holds (any-allowed gate_any)) refl
+gate_frame_lem = framed gate_file (lit≤ tt) (none_of gate_file never_kind refl) (2 ^ 16 - 1) (lit< tt) (λ v. true) (λ v. it_holds (any_allowed gate_any)) refl
 
 -- the gate without kind 6: setting 0 is the only start, and state 0 does not rest there
 closed_spelt : spelling closed_gate_file gate_trees ≡ true
@@ -183,4 +183,4 @@ closed_ruled = ruled closed_gate_file gate_trees closed_spelt gate_rules gate_ta
 pub closed_refused : Answered closed_gate_file 13 0
 unfolding closed_gate_file gate_table start_of every
 closed_refused = no_start closed_shaped _ gate_sound closed_ruled (none_same closed_gate_file refl) gate_reached
-    (λ v s. let e = zero-allowed (none_of closed_gate_file starts_kind refl) s.allowed.0 in omega (arith, subst (λ (v : ℕ). table_moves gate_table 16 0 v 0) e s.rests))
+    (λ v s. let e = zero_allowed (none_of closed_gate_file starts_kind refl) s.allowed.0 in omega (arith, subst (λ (v : ℕ). table_moves gate_table 16 0 v 0) e s.rests))

@@ -13,7 +13,7 @@ use borrow.Author.Tests.{lt-ltb, le-ltb}
 use Rattle.verdict.specs.Checks.{Decides}
 use Rattle.sets.specs.Sets.{words, most_members, member}
 use Rattle.sets.proofs.Members.{zeros, member_beyond}
-use Rattle.sets.proofs.Arrays.{set-none}
+use Rattle.sets.proofs.Arrays.{set_none}
 use Rattle.machine.specs.Limits.{most_inputs}
 use Rattle.machine.proofs.Order.{below_or}
 use Rattle.verdict.specs.Below.{every}
@@ -43,7 +43,7 @@ module _ (file : List ℕ) (few : (sizes_of file).inputs ≤ most_inputs) (none 
       inputs = refl;
       states = refl;
       initial = refl;
-      never = set-none words (settings (sizes_of file)) (λ v h. none_never none);
+      never = set_none words (settings (sizes_of file)) (λ v h. none_never none);
       starts = record {
         array = record { count = refl; small = λ i h. word i };
         each = λ v h. subst (Decides (Allowed file (sizes_of file) v))

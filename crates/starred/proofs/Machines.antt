@@ -15,7 +15,7 @@ use Rattle.verdict.proofs.Tests.{decides_equal, decides_below}
 use Rattle.verdict.specs.Below.{every}
 use Rattle.verdict.proofs.Below.{decides_every}
 use Rattle.machine.proofs.Tests.{starts, changes, steps}
-use Rattle.machine.proofs.Certificate.{right, by-test}
+use Rattle.machine.proofs.Certificate.{right, by_test}
 use Rattle.starred.specs.Rows.{lamp_table, gate_table, lamp, gate}
 
 module _ (m : Machine) where
@@ -50,7 +50,7 @@ lamp_sound = sound lamp (lit< tt) refl refl
 
 pub lamp_listed : Listed lamp (0 ∷ 1 ∷ 2 ∷ 1 ∷ []) (0 ∷ 0 ∷ 3 ∷ 0 ∷ [])
 unfolding lamp_table every right starts changes steps differing
-lamp_listed = by-test lamp _ _ lamp_sound (lit≤ tt) refl
+lamp_listed = by_test lamp _ _ lamp_sound (lit≤ tt) refl
 
 pub gate_sound : Sound gate
 unfolding gate_table closed calm every
@@ -70,4 +70,4 @@ gate_parents =
 
 pub gate_listed : Listed gate gate_ranks gate_parents
 unfolding gate_table every right starts changes steps differing
-gate_listed = by-test gate _ _ gate_sound (lit≤ tt) refl
+gate_listed = by_test gate _ _ gate_sound (lit≤ tt) refl

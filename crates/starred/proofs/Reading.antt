@@ -11,13 +11,13 @@ use Rattle.verdict.proofs.Tests.{meets, whole}
 use Rattle.verdict.proofs.Order.{pass, halt, ends, long}
 use Rattle.machine.specs.Moves.{table_moves, Transient, SameWord, Reached, Start}
 use Rattle.machine.specs.Runs.{machine_of, Sound}
-use Rattle.machine.proofs.Same.{transient-into, reached-into, start-into}
+use Rattle.machine.proofs.Same.{transient_into, reached_into, start_into}
 use Rattle.specification.specs.File.{mark, rests_of, WellFormed}
 use Rattle.specification.specs.Records.{sizes_of, settings, word, Sized, Beyond, Own, Twice}
 use Rattle.specification.specs.Rules.{Unreads, Moves, MayStart}
 use Rattle.specification.specs.Reading.{rule_checks, move_checks}
 use Rattle.starred.specs.Rows.{free, Answered}
-use Rattle.starred.proofs.Records.{formed, well-formed, ranged, sized, recorded, record-checks}
+use Rattle.starred.proofs.Records.{formed, well_formed, ranged, sized, recorded, record_checks_lem}
 use Rattle.starred.proofs.Rules.{spelling, none_unread, Ruled}
 
 -- checks 1, 2, 4, 5, 6 and 7 fail nowhere
@@ -33,8 +33,8 @@ pub record Shaped (file : List ℕ) : Type 0 where
 pub shape : (file : List ℕ) (trees : List (Tree condition)) → spelling file trees ≡ true → take 4 file ≡ mark (rests_of file)
     → formed file ≡ true → ranged file ≡ true → recorded file ≡ true → Shaped file
 shape file trees spelt marked e f g =
-    let x = record-checks file g in
-    record { formed = well-formed file marked e; sized = sized file f; inside = x.0; read = none_unread file trees spelt; changes = x.1; once = x.2 }
+    let x = record_checks_lem file g in
+    record { formed = well_formed file marked e; sized = sized file f; inside = x.0; read = none_unread file trees spelt; changes = x.1; once = x.2 }
 
 module _ {file : List ℕ} (x : Shaped file) where
   pub shaped : {number place : ℕ} → Judged (rule_checks file (sizes_of file) ++ move_checks file (sizes_of file)) Passed (record { number = number; place = place }) → Answered file number place
@@ -48,7 +48,7 @@ module _ {file : List ℕ} (x : Shaped file) where
     calm : None (Transient (Moves file (sizes_of file)) (sizes_of file).states (settings (sizes_of file)))
     calm = record {
       nowhere = λ p f.
-          let y = transient-into rules.into rules.from p f in
+          let y = transient_into rules.into rules.from p f in
           y.unrest (subst (λ t. table_moves T (settings (sizes_of file)) t y.v t) y.moves (ok.calm y.s y.v y.couple.state y.couple.setting));
     }
 
@@ -56,10 +56,10 @@ module _ {file : List ℕ} (x : Shaped file) where
     started : {number place : ℕ} → Judged (check 13 (Unless ((v : ℕ) × Start (Moves file (sizes_of file)) (MayStart file (sizes_of file)) (settings (sizes_of file)) (sizes_of file).initial v)) ∷ []) Passed (record { number = number; place = place })
         → Answered file number place
     started v = shaped (pass rules.once (pass rules.always (pass calm (pass same (pass
-        (record { nowhere = λ s f. f.never (reached-into rules.from ok.begins (reached s f.state)).1 }) v)))))
+        (record { nowhere = λ s f. f.never (reached_into rules.from ok.begins (reached s f.state)).1 }) v)))))
 
     pub succeeds : (v : ℕ) → Start (table_moves T (settings (sizes_of file))) (MayStart file (sizes_of file)) (settings (sizes_of file)) (sizes_of file).initial v → Answered file 0 0
-    succeeds v start = started (pass (meets (v, start-into rules.from (λ h. h) ok.begins start)) ends)
+    succeeds v start = started (pass (meets (v, start_into rules.from (λ h. h) ok.begins start)) ends)
 
     pub no_start : ((v : ℕ) → Start (table_moves T (settings (sizes_of file))) (MayStart file (sizes_of file)) (settings (sizes_of file)) (sizes_of file).initial v → ⊥) → Answered file 13 0
-    no_start none = started (halt (whole (λ s. none s.0 (start-into rules.into (λ h. h) ok.begins s.1))))
+    no_start none = started (halt (whole (λ s. none s.0 (start_into rules.into (λ h. h) ok.begins s.1))))

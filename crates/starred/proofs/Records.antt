@@ -35,8 +35,8 @@ module _ (file : List ℕ) where
       && eqb (length_of file 1 % 3) 0
       && eqb (length_of file 2 % 3) 0
 
-  pub well-formed : take 4 file ≡ mark (rests_of file) → formed ≡ true → WellFormed file
-  well-formed marked e =
+  pub well_formed : take 4 file ≡ mark (rests_of file) → formed ≡ true → WellFormed file
+  well_formed marked e =
       let x = (decides_at_most _ _ also decides_at_most _ _ also decides_at_most _ _
       also decides_every kinds _ (λ k. kind_of file k ≡ k + 1) (λ k. decides_equal _ _)
       also decides_every (count_of file - 1) _ (λ k. kind_of file k < kind_of file (suc k)) (λ k. decides_below _ _)
@@ -97,17 +97,17 @@ module _ (file : List ℕ) where
       }
 
   -- each state, and each evolution, passes a test
-  abbrev pub ofStates : (ℕ → Bool) → Bool
-  ofStates f = every (sizes_of file).states f
+  abbrev pub of_states : (ℕ → Bool) → Bool
+  of_states f = every (sizes_of file).states f
 
-  abbrev pub ofEvolutions : (ℕ → Bool) → Bool
-  ofEvolutions f = every (records (sizes_of file)) (λ r. cond (ltb r (sizes_of file).states) true (f r))
+  abbrev pub of_evolutions : (ℕ → Bool) → Bool
+  of_evolutions f = every (records (sizes_of file)) (λ r. cond (ltb r (sizes_of file).states) true (f r))
 
-  decides-states : (P : ℕ → Type 0) {f : ℕ → Bool} → ((s : ℕ) → Decides (P s) (f s)) → Decides ((s : ℕ) → s < (sizes_of file).states → P s) (ofStates f)
-  decides-states P told = decides_every (sizes_of file).states _ P told
+  decides_states : (P : ℕ → Type 0) {f : ℕ → Bool} → ((s : ℕ) → Decides (P s) (f s)) → Decides ((s : ℕ) → s < (sizes_of file).states → P s) (of_states f)
+  decides_states P told = decides_every (sizes_of file).states _ P told
 
-  decides-evolutions : (P : ℕ → Type 0) {f : ℕ → Bool} → ((r : ℕ) → Decides (P r) (f r)) → Decides ((r : ℕ) → r < records (sizes_of file) → (r < (sizes_of file).states) ⊎ P r) (ofEvolutions f)
-  decides-evolutions P told = decides_every (records (sizes_of file)) _ (λ r. (r < (sizes_of file).states) ⊎ P r) (λ r. decides_either (decides_below _ _) (told r))
+  decides_evolutions : (P : ℕ → Type 0) {f : ℕ → Bool} → ((r : ℕ) → Decides (P r) (f r)) → Decides ((r : ℕ) → r < records (sizes_of file) → (r < (sizes_of file).states) ⊎ P r) (of_evolutions f)
+  decides_evolutions P told = decides_every (records (sizes_of file)) _ (λ r. (r < (sizes_of file).states) ⊎ P r) (λ r. decides_either (decides_below _ _) (told r))
 
   evolution : {r : ℕ} {P : Type 0} → Evolves (sizes_of file) r → (r < (sizes_of file).states) ⊎ P → P
   evolution x (inl h) = absurd (omega (arith, x.after))
@@ -119,17 +119,17 @@ module _ (file : List ℕ) where
 
   abbrev pub recorded : Bool
   recorded =
-      ofStates (λ r. ltb (word file (sizes_of file) r) (2 ^ (sizes_of file).outputs))
-      && ofEvolutions (λ r. ltb (source file (sizes_of file) r) (sizes_of file).states)
-      && ofEvolutions (λ r. ltb (target file (sizes_of file) r) (sizes_of file).states)
-      && ofEvolutions (λ r. not (eqb (target file (sizes_of file) r) (source file (sizes_of file) r)))
-      && ofEvolutions (λ r. every r (λ q. cond (ltb q (sizes_of file).states) true (not (alike q r))))
+      of_states (λ r. ltb (word file (sizes_of file) r) (2 ^ (sizes_of file).outputs))
+      && of_evolutions (λ r. ltb (source file (sizes_of file) r) (sizes_of file).states)
+      && of_evolutions (λ r. ltb (target file (sizes_of file) r) (sizes_of file).states)
+      && of_evolutions (λ r. not (eqb (target file (sizes_of file) r) (source file (sizes_of file) r)))
+      && of_evolutions (λ r. every r (λ q. cond (ltb q (sizes_of file).states) true (not (alike q r))))
 
   abbrev Alike : ℕ → ℕ → Type 0
   Alike q r = (source file (sizes_of file) q ≡ source file (sizes_of file) r) × (target file (sizes_of file) q ≡ target file (sizes_of file) r)
 
-  decides-earlier : (r : ℕ) → Decides ((q : ℕ) → q < r → (q < (sizes_of file).states) ⊎ (Alike q r → ⊥)) (every r (λ q. cond (ltb q (sizes_of file).states) true (not (alike q r))))
-  decides-earlier r = decides_every r _ (λ q. (q < (sizes_of file).states) ⊎ (Alike q r → ⊥)) (λ q. decides_either (decides_below _ _) (decides_not (decides_equal _ _ also decides_equal _ _)))
+  decides_earlier : (r : ℕ) → Decides ((q : ℕ) → q < r → (q < (sizes_of file).states) ⊎ (Alike q r → ⊥)) (every r (λ q. cond (ltb q (sizes_of file).states) true (not (alike q r))))
+  decides_earlier r = decides_every r _ (λ q. (q < (sizes_of file).states) ⊎ (Alike q r → ⊥)) (λ q. decides_either (decides_below _ _) (decides_not (decides_equal _ _ also decides_equal _ _)))
 
   never : ((r : ℕ) → r < (sizes_of file).states → word file (sizes_of file) r < 2 ^ (sizes_of file).outputs)
       → ((r : ℕ) → r < records (sizes_of file) → (r < (sizes_of file).states) ⊎ (source file (sizes_of file) r < (sizes_of file).states))
@@ -139,21 +139,21 @@ module _ (file : List ℕ) where
   never words sources targets r (source_beyond x l) = omega (arith, evolution x (sources r x.below))
   never words sources targets r (target_beyond x l) = omega (arith, evolution x (targets r x.below))
 
-  pub record-checks : recorded ≡ true → None (Beyond file (sizes_of file)) × None (Own file (sizes_of file)) × None (Twice file (sizes_of file))
-  record-checks e =
+  pub record_checks_lem : recorded ≡ true → None (Beyond file (sizes_of file)) × None (Own file (sizes_of file)) × None (Twice file (sizes_of file))
+  record_checks_lem e =
       let x =
-      (decides-states (λ r. word file (sizes_of file) r < 2 ^ (sizes_of file).outputs) (λ r. decides_below _ _)
-      also decides-evolutions (λ r. source file (sizes_of file) r < (sizes_of file).states) (λ r. decides_below _ _)
-      also decides-evolutions (λ r. target file (sizes_of file) r < (sizes_of file).states) (λ r. decides_below _ _)
-      also decides-evolutions (λ r. target file (sizes_of file) r ≡ source file (sizes_of file) r → ⊥) (λ r. decides_not (decides_equal _ _))
-      also decides-evolutions (λ r. (q : ℕ) → q < r → (q < (sizes_of file).states) ⊎ (Alike q r → ⊥)) (λ r. decides-earlier r)).holds e in (
+      (decides_states (λ r. word file (sizes_of file) r < 2 ^ (sizes_of file).outputs) (λ r. decides_below _ _)
+      also decides_evolutions (λ r. source file (sizes_of file) r < (sizes_of file).states) (λ r. decides_below _ _)
+      also decides_evolutions (λ r. target file (sizes_of file) r < (sizes_of file).states) (λ r. decides_below _ _)
+      also decides_evolutions (λ r. target file (sizes_of file) r ≡ source file (sizes_of file) r → ⊥) (λ r. decides_not (decides_equal _ _))
+      also decides_evolutions (λ r. (q : ℕ) → q < r → (q < (sizes_of file).states) ⊎ (Alike q r → ⊥)) (λ r. decides_earlier r)).holds e in (
         record { nowhere = never x.0.0.0.0 x.0.0.0.1 x.0.0.1 },
         record { nowhere = λ r o. evolution o.evolves (x.0.1 r o.evolves.below) o.loops },
         record { nowhere = λ r t. evolution t.evolved (evolution t.evolves (x.1 r t.evolves.below) t.earlier t.before) (t.from, t.to) },
       )
 
   -- refusal 11
-  pub none_same : ofStates (λ s. every s (λ q. not (eqb (word file (sizes_of file) q) (word file (sizes_of file) s)))) ≡ true → None (SameWord (word file (sizes_of file)) (sizes_of file).states)
+  pub none_same : of_states (λ s. every s (λ q. not (eqb (word file (sizes_of file) q) (word file (sizes_of file) s)))) ≡ true → None (SameWord (word file (sizes_of file)) (sizes_of file).states)
   none_same e =
-      let x = (decides-states (λ s. (q : ℕ) → q < s → word file (sizes_of file) q ≡ word file (sizes_of file) s → ⊥) (λ s. decides_every s _ _ (λ q. decides_not (decides_equal _ _)))).holds e in
+      let x = (decides_states (λ s. (q : ℕ) → q < s → word file (sizes_of file) q ≡ word file (sizes_of file) s → ⊥) (λ s. decides_every s _ _ (λ q. decides_not (decides_equal _ _)))).holds e in
       record { nowhere = λ s f. x s f.state f.earlier f.before f.same }

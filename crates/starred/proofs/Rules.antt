@@ -23,8 +23,8 @@ use Rattle.verdict.specs.Below.{every}
 use Rattle.verdict.proofs.Below.{decides_every}
 use Rattle.specification.specs.Records.{sizes_of, settings, couples, records}
 use Rattle.specification.specs.Rules.{text_of, conditions, condition_of, by_text, rule_of, leads_to, Unreads, Fires, TwoRules, NoRule, Moves, MoveAt}
-use Rattle.specification.proofs.Conditions.{condition-record}
-use Rattle.specification.proofs.Forms.{of-text}
+use Rattle.specification.proofs.Conditions.{condition_record}
+use Rattle.specification.proofs.Forms.{of_text}
 
 -- two tests say the same
 abbrev pub same : Bool → Bool → Bool
@@ -115,23 +115,23 @@ module _ (file : List ℕ) where
           record { tree = tree_of trees r; spelt = one_text _ _ t ∙ is; nested = leb-true _ _ o; known = letters_below_lem (sizes_of file).inputs (tree_of trees r) k }
 
       reads : (r : ℕ) → r < records (sizes_of file) → Reads (sizes_of file).inputs (text_of file (sizes_of file) r)
-      reads r h = reads_as r (omega arith) (condition-record file (sizes_of file) r h)
+      reads r h = reads_as r (omega arith) (condition_record file (sizes_of file) r h)
 
       -- refusal 5
       pub none_unread : None (Unreads file (sizes_of file))
       none_unread = record { nowhere = λ r x. x.unread (reads_as r x.below refl) }
 
-      decides-fires : (s v r : ℕ) → r < records (sizes_of file) → Decides (Fires file (sizes_of file) s v r) (firing s v r)
+      decides_fires : (s v r : ℕ) → r < records (sizes_of file) → Decides (Fires file (sizes_of file) s v r) (firing s v r)
       unfolding reads reads_as
-      decides-fires s v r h = decides_map
+      decides_fires s v r h = decides_map
           (λ x. record { below = h; rule = x.0; holds = by_text (worded r) (record { reads = reads r h; true_there = x.1 }) })
           (λ x.
-          let y = of-text (worded r) x.holds in
+          let y = of_text (worded r) x.holds in
           (x.rule, ap (λ t. holds v t) (one_tree _ _ ((reads r h).spelt ∙ sym y.reads.spelt)) ∙ y.true_there))
           (decides_equal _ _ also decides_true (holds v (tree_of trees r)))
 
       pub fires : (s v r : ℕ) → r < records (sizes_of file) → firing s v r ≡ true → Fires file (sizes_of file) s v r
-      fires s v r h = (decides-fires s v r h).holds
+      fires s v r h = (decides_fires s v r h).holds
 
       -- for each of the first k couples the one rule that holds there
       module _ (k : ℕ) (rules : List ℕ)
@@ -149,14 +149,14 @@ module _ (file : List ℕ) where
         there s v p r c x = subst₂ (λ t w. Fires file (sizes_of file) t w r)
             (ap (◌/ m) c.number ∙ digits_div s c.setting) (ap (◌% m) c.number ∙ digits_mod s c.setting) x
 
-        the-rule : (s v p r : ℕ) → Couple (sizes_of file).states m s v p → p < k → Fires file (sizes_of file) s v r → r ≡ get_or rules p 0
-        the-rule s v p r c h x = eqb-true _ _ (sym (exact p h r x.below) ∙ decides_is (decides-fires _ _ r x.below) (here s v p r c x))
+        the_rule : (s v p r : ℕ) → Couple (sizes_of file).states m s v p → p < k → Fires file (sizes_of file) s v r → r ≡ get_or rules p 0
+        the_rule s v p r c h x = eqb-true _ _ (sym (exact p h r x.below) ∙ decides_is (decides_fires _ _ r x.below) (here s v p r c x))
 
         -- refusal 8 at none of them
-        pub none-two : (p : ℕ) → p < k → TwoRules file (sizes_of file) m p → ⊥
-        none-two p h x =
-            let e = the-rule x.s x.v p x.two.low x.couple h x.two.one in
-            let f = the-rule x.s x.v p x.two.high x.couple h x.two.other in
+        pub none_two : (p : ℕ) → p < k → TwoRules file (sizes_of file) m p → ⊥
+        none_two p h x =
+            let e = the_rule x.s x.v p x.two.low x.couple h x.two.one in
+            let f = the_rule x.s x.v p x.two.high x.couple h x.two.other in
             omega (arith, x.two.differ)
 
       -- where these are all couples, the rules are records and lead to the states of a table
@@ -180,11 +180,11 @@ module _ (file : List ℕ) where
         moved : (s v t : ℕ) → s < (sizes_of file).states → v < m → Moves file (sizes_of file) s v t → get_or T (couple_at m s v) 0 ≡ t
         moved s v t h l x =
             let c = at h l in
-            sym (leads _ (couple_below c)) ∙ ap (λ r. leads_to file (sizes_of file) r) (sym (the-rule (couples (sizes_of file)) rules exactly s v _ x.rule c (couple_below c) x.fires)) ∙ x.leads
+            sym (leads _ (couple_below c)) ∙ ap (λ r. leads_to file (sizes_of file) r) (sym (the_rule (couples (sizes_of file)) rules exactly s v _ x.rule c (couple_below c) x.fires)) ∙ x.leads
 
         pub ruled : Ruled file T
         ruled = record {
-          once = record { nowhere = λ p x. none-two (couples (sizes_of file)) rules exactly p (couple_below x.couple) x };
+          once = record { nowhere = λ p x. none_two (couples (sizes_of file)) rules exactly p (couple_below x.couple) x };
           always = record { nowhere = λ p x. x.none (get_or rules p 0) (holding x.couple) };
           moves = λ p h. record { move = λ s v c. record { rule = get_or rules p 0; fires = holding c; leads = leads p h } };
           into = record {

@@ -55,8 +55,8 @@ module _ (table : List ℕ) (settings initial : ℕ) where
     pub begun : get_or seen initial false ≡ true
     pub closed : (s v : ℕ) → v < settings → s * settings + v < p → get_or seen s false ≡ true → get_or seen (get_or table (s * settings + v) 0) false ≡ true
 
-  pub scan-more : {seen : List Bool} (p : ℕ) → (get_or seen (p / settings) false ≡ true → get_or seen (get_or table p 0) false ≡ true) → Scanned seen p → Scanned seen (p + 1)
-  scan-more {seen} p here c =
+  pub scan_more : {seen : List Bool} (p : ℕ) → (get_or seen (p / settings) false ≡ true → get_or seen (get_or table p 0) false ≡ true) → Scanned seen p → Scanned seen (p + 1)
+  scan_more {seen} p here c =
       record {
         size = c.size;
         sound = c.sound;
@@ -69,8 +69,8 @@ module _ (table : List ℕ) (settings initial : ℕ) where
           let d = ap (◌/ settings) (sym q) ∙ digits_div s h in
           ap (λ k. get_or seen (get_or table k 0) false) q ∙ here (ap (λ k. get_or seen k false) d ∙ e)
 
-  pub scan-add : {seen : List Bool} (p : ℕ) → 0 < settings → get_or table p 0 < most_states → get_or seen (p / settings) false ≡ true → Scanned seen p → Scanned (set seen (get_or table p 0) true) 0
-  scan-add {seen} p z m up c =
+  pub scan_add : {seen : List Bool} (p : ℕ) → 0 < settings → get_or table p 0 < most_states → get_or seen (p / settings) false ≡ true → Scanned seen p → Scanned (set seen (get_or table p 0) true) 0
+  scan_add {seen} p z m up c =
       record {
         size = length-set seen (get_or table p 0) true ∙ c.size;
         sound = λ s. set_up (Reached (table_moves table settings) settings initial) seen (get_or table p 0) s new (c.sound s);
@@ -81,8 +81,8 @@ module _ (table : List ℕ) (settings initial : ℕ) where
       new : Reached (table_moves table settings) settings initial (get_or table p 0)
       new = step (p % settings) (c.sound (p / settings) up) (mod-lt p z) (ap (λ k. get_or table k 0) (div-add-mod' p settings))
 
-  pub scan-end : {seen : List Bool} {states p : ℕ} → Fit table states settings initial → states * settings ≤ p → Scanned seen p → (s : ℕ) → s < states → Decides (Reached (table_moves table settings) settings initial s) (get_or seen s false)
-  scan-end {seen} {states} {p} fit l c s h = record { holds = c.sound s; fails = λ e r. true≢false (sym (all r).1 ∙ e) }
+  pub scan_end : {seen : List Bool} {states p : ℕ} → Fit table states settings initial → states * settings ≤ p → Scanned seen p → (s : ℕ) → s < states → Decides (Reached (table_moves table settings) settings initial s) (get_or seen s false)
+  scan_end {seen} {states} {p} fit l c s h = record { holds = c.sound s; fails = λ e r. true≢false (sym (all r).1 ∙ e) }
     where
       all : {t : ℕ} → Reached (table_moves table settings) settings initial t → (t < states) × (get_or seen t false ≡ true)
       all start = (fit.begins, c.begun)

@@ -11,17 +11,17 @@ use Rattle.machine.specs.Runs.{Machine, Starts}
 use Rattle.tables.specs.Tables.{Tabled, table_checks, sound_checks}
 
 module _ (m : Machine) where
-  pub tabled-only : (r s : Bool) → Decides (Tabled m) r → Decides (Tabled m) s → r ≡ s
-  tabled-only r s = decides_unique _ r s
+  pub tabled_only : (r s : Bool) → Decides (Tabled m) r → Decides (Tabled m) s → r ≡ s
+  tabled_only r s = decides_unique _ r s
 
-  pub is-start-only : (v : ℕ) (r s : Bool) → Decides (Tabled m × Starts m v) r → Decides (Tabled m × Starts m v) s → r ≡ s
-  is-start-only v r s = decides_unique _ r s
+  pub is_start_only : (v : ℕ) (r s : Bool) → Decides (Tabled m × Starts m v) r → Decides (Tabled m × Starts m v) s → r ≡ s
+  is_start_only v r s = decides_unique _ r s
 
-  pub started-only : (r s : Bool) → Decides (Tabled m × ((v : ℕ) × Starts m v)) r → Decides (Tabled m × ((v : ℕ) × Starts m v)) s → r ≡ s
-  started-only r s = decides_unique _ r s
+  pub started_only : (r s : Bool) → Decides (Tabled m × ((v : ℕ) × Starts m v)) r → Decides (Tabled m × ((v : ℕ) × Starts m v)) s → r ≡ s
+  started_only r s = decides_unique _ r s
 
-  pub check-table-only : {a b : Answer} → Judged (table_checks m) Passed a → Judged (table_checks m) Passed b → a ≡ b
-  check-table-only v w = judged_unique v w
+  pub check_table_only : {a b : Answer} → Judged (table_checks m) Passed a → Judged (table_checks m) Passed b → a ≡ b
+  check_table_only v w = judged_unique v w
 
-  pub check-sound-only : (words : List ℕ) {a b : Answer} → Judged (sound_checks m words) Passed a → Judged (sound_checks m words) Passed b → a ≡ b
-  check-sound-only words v w = judged_unique v w
+  pub check_sound_only : (words : List ℕ) {a b : Answer} → Judged (sound_checks m words) Passed a → Judged (sound_checks m words) Passed b → a ≡ b
+  check_sound_only words v w = judged_unique v w

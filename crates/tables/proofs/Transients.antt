@@ -13,12 +13,12 @@ use Rattle.machine.proofs.Couples.{couple_of, some_setting}
 use Rattle.machine.proofs.Order.{below_or}
 
 module _ (T : List ℕ) {m states p : ℕ} where
-  pub transient-at : 0 < m → p < states * m → (get_or T (get_or T p 0 * m + p % m) 0 ≡ get_or T p 0 → ⊥) → Transient (table_moves T m) states m p
-  transient-at z h n =
+  pub transient_at : 0 < m → p < states * m → (get_or T (get_or T p 0 * m + p % m) 0 ≡ get_or T p 0 → ⊥) → Transient (table_moves T m) states m p
+  transient_at z h n =
       record { s = p / m; v = p % m; t = get_or T p 0; couple = couple_of p z h; moves = ap (λ c. get_or T c 0) (div-add-mod' p m); unrest = n }
 
-  pub transient-not : get_or T (get_or T p 0 * m + p % m) 0 ≡ get_or T p 0 → Transient (table_moves T m) states m p → ⊥
-  transient-not h x =
+  pub transient_not : get_or T (get_or T p 0 * m + p % m) 0 ≡ get_or T p 0 → Transient (table_moves T m) states m p → ⊥
+  transient_not h x =
       let k = x.couple in
       let q : get_or T p 0 ≡ x.t = ap (λ c. get_or T c 0) k.number ∙ x.moves in
       let r : p % m ≡ x.v = ap (◌% m) k.number ∙ digits_mod x.s k.setting in

@@ -29,8 +29,8 @@ module _ (n : ℕ) (f : ℕ → Bool) where
   pub all_pass : ((i : ℕ) → i < n → f i ≡ true) → true ≡ every n f
   all_pass h = sym (decides_is tests h)
 
-  pub one-fails : (i : ℕ) → i < n → f i ≡ false → false ≡ every n f
-  one-fails i l e = decides_unique _ false (every n f) (it_fails (λ all. true≢false (sym (all i l) ∙ e))) tests
+  pub one_fails : (i : ℕ) → i < n → f i ≡ false → false ≡ every n f
+  one_fails i l e = decides_unique _ false (every n f) (it_fails (λ all. true≢false (sym (all i l) ∙ e))) tests
 
 -- ---- sums
 pub sum_more : (f : ℕ → ℕ) (n : ℕ) → sum_to f (n + 1) ≡ sum_to f n + f n
@@ -87,24 +87,24 @@ list_same f g n h = list_is (list_to f n) g n (list_length f n) (λ i l. list_at
 
 -- ---- lists end to end
 module _ (f : ℕ → List ℕ) where
-  pub join-length : (h : ℕ → ℕ) (n : ℕ) → ((i : ℕ) → i < n → h i ≡ length (f i)) → sum_to h n ≡ length (join_to f n)
+  pub join_length : (h : ℕ → ℕ) (n : ℕ) → ((i : ℕ) → i < n → h i ≡ length (f i)) → sum_to h n ≡ length (join_to f n)
   unfolding join_to sum_to
-  join-length h zero e = refl
-  join-length h (suc n) e = omega (arith, join-length h n (λ i l. e i (omega arith)), e n (omega arith), length-append (join_to f n) (f n))
+  join_length h zero e = refl
+  join_length h (suc n) e = omega (arith, join_length h n (λ i l. e i (omega arith)), e n (omega arith), length-append (join_to f n) (f n))
 
   -- of one length
-  pub join-even : (b n : ℕ) → ((i : ℕ) → length (f i) ≡ b) → length (join_to f n) ≡ n * b
+  pub join_even : (b n : ℕ) → ((i : ℕ) → length (f i) ≡ b) → length (join_to f n) ≡ n * b
   unfolding join_to
-  join-even b zero e = sym (zero-mul b)
-  join-even b (suc n) e = omega (arith, join-even b n e, e n, length-append (join_to f n) (f n), suc-mul n b)
+  join_even b zero e = sym (zero-mul b)
+  join_even b (suc n) e = omega (arith, join_even b n e, e n, length-append (join_to f n) (f n), suc-mul n b)
 
   -- each stands behind those before it
-  pub join-at : (n i : ℕ) (v : List ℕ) → i < n → (u : List ℕ) × (join_to f n ++ v ≡ join_to f i ++ (f i ++ u))
+  pub join_at : (n i : ℕ) (v : List ℕ) → i < n → (u : List ℕ) × (join_to f n ++ v ≡ join_to f i ++ (f i ++ u))
   unfolding join_to
-  join-at zero i v h = absurd (not-suc-le-zero h)
-  join-at (suc n) i v h =
+  join_at zero i v h = absurd (not-suc-le-zero h)
+  join_at (suc n) i v h =
       let e = append_assoc (join_to f n) (f n) v in
       ⊎_elim
       (λ q. (v, e ∙ ap (λ j. join_to f j ++ (f j ++ v)) (sym q)))
-      (λ l. let (u, d) = join-at n i (f n ++ v) l in (u, e ∙ d))
+      (λ l. let (u, d) = join_at n i (f n ++ v) l in (u, e ∙ d))
       (eq-or-lt_of_le (le_of_suc-le-suc h))

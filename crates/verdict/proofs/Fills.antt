@@ -104,19 +104,19 @@ no_filled h l (inr k) = omega arith
 
 -- what each way of ending leaves
 module _ {number t blank : ℕ} {Value : ℕ → ℕ → Type 0} {a : List ℕ} where
-  pub left-same : 1 ≤ number → number ≤ 3 → Left number t blank Value a a
-  left-same h l = record { unchanged = λ _ _. refl; blanked = λ k _. absurd (omega arith); filled = λ k. absurd (no_filled h (omega arith) k) }
+  pub left_same : 1 ≤ number → number ≤ 3 → Left number t blank Value a a
+  left_same h l = record { unchanged = λ _ _. refl; blanked = λ k _. absurd (omega arith); filled = λ k. absurd (no_filled h (omega arith) k) }
 
-  pub left-blank : {P : ℕ → ℕ → Type 0} {b d : List ℕ} → 4 ≤ number → number ≤ 13 → Filled t P a b → Filled t (λ c x. x ≡ blank) b d → Left number t blank Value a d
-  left-blank h l f g = record { unchanged = λ _ k. absurd (omega arith); blanked = λ _ _. filled_after f g; filled = λ k. absurd (no_filled (omega arith) l k) }
+  pub left_blank : {P : ℕ → ℕ → Type 0} {b d : List ℕ} → 4 ≤ number → number ≤ 13 → Filled t P a b → Filled t (λ c x. x ≡ blank) b d → Left number t blank Value a d
+  left_blank h l f g = record { unchanged = λ _ k. absurd (omega arith); blanked = λ _ _. filled_after f g; filled = λ k. absurd (no_filled (omega arith) l k) }
 
-  pub left-filled : {b : List ℕ} → (number ≡ 0) ⊎ (14 ≤ number) → Filled t Value a b → Left number t blank Value a b
-  left-filled e f = record { unchanged = λ h l. absurd (no_filled h (omega arith) e); blanked = λ h l. absurd (no_filled (omega arith) l e); filled = λ _. f }
+  pub left_filled : {b : List ℕ} → (number ≡ 0) ⊎ (14 ≤ number) → Filled t Value a b → Left number t blank Value a b
+  left_filled e f = record { unchanged = λ h l. absurd (no_filled h (omega arith) e); blanked = λ h l. absurd (no_filled (omega arith) l e); filled = λ _. f }
 
 -- a job that refuses writes nothing
 module _ {number : ℕ} {Is : List ℕ → Type 0} {a : List ℕ} where
-  pub written-nothing : (number ≡ 0 → ⊥) → Written number Is a a
-  written-nothing n = record { unchanged = λ _. refl; done = λ e. absurd (n e) }
+  pub written_nothing : (number ≡ 0 → ⊥) → Written number Is a a
+  written_nothing n = record { unchanged = λ _. refl; done = λ e. absurd (n e) }
 
-  pub written-done : {b w : List ℕ} → number ≡ 0 → Front w a b → Is w → Written number Is a b
-  written-done {b} {w} e f i = record { unchanged = λ n. absurd (n e); done = λ _. (w, i, f) }
+  pub written_done : {b w : List ℕ} → number ≡ 0 → Front w a b → Is w → Written number Is a b
+  written_done {b} {w} e f i = record { unchanged = λ n. absurd (n e); done = λ _. (w, i, f) }

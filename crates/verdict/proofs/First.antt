@@ -30,15 +30,15 @@ none_fails (c ∷ cs) p (inr f) = none_fails cs p.1 f
 
 module _ {cs : List Check} {a : Answer} (v : Judged cs Passed a) where
   -- refused: the answer is the first check that fails, so one does
-  pub judged-first : (a.number ≡ 0 → ⊥) → FirstFails cs a
-  judged-first n = first_of cs a v.verdict n
+  pub judged_first : (a.number ≡ 0 → ⊥) → FirstFails cs a
+  judged_first n = first_of cs a v.verdict n
 
-  pub judged-fails : (a.number ≡ 0 → ⊥) → Fails cs
-  judged-fails n = some_fails cs a (judged-first n)
+  pub judged_fails : (a.number ≡ 0 → ⊥) → Fails cs
+  judged_fails n = some_fails cs a (judged_first n)
 
   -- a check fails: refused, and the first that fails is the answer
-  pub fails-judged : (high : ℕ) → Numbered 1 high cs → Fails cs → a.number ≡ 0 → ⊥
-  fails-judged high num f e = none_fails cs (judged_passes high v num e) f
+  pub fails_judged : (high : ℕ) → Numbered 1 high cs → Fails cs → a.number ≡ 0 → ⊥
+  fails_judged high num f e = none_fails cs (judged_passes high v num e) f
 
-  pub first-judged : (b : Answer) → FirstFails cs b → a ≡ b
-  first-judged b f = of_first cs a b v.verdict f
+  pub first_judged : (b : Answer) → FirstFails cs b → a ≡ b
+  first_judged b f = of_first cs a b v.verdict f

@@ -139,28 +139,28 @@ roomy {needed} {has} n = let f : has < needed → ⊥ = λ h. n.nowhere needed (
 
 module _ {F : ℕ → Type 0} {n : ℕ} {cs : List Check} {done : Answer → Type 0} {a : Answer} where
   -- the first check refused, or the rest decided
-  pub judged-or : {P : Type 0} → Judged (check n F ∷ cs) done a → (Least F a.place → a.number ≡ n → P) → (None F → Judged cs done a → P) → P
-  judged-or {P} v f g = by v.verdict
+  pub judged_or : {P : Type 0} → Judged (check n F ∷ cs) done a → (Least F a.place → a.number ≡ n → P) → (None F → Judged cs done a → P) → P
+  judged_or {P} v f g = by v.verdict
     where
       by : Then F n (Verdict cs done a) a → P
       by (refused l e) = f l e
       by (next m w) = g m (record { verdict = w })
 
   -- a check that fails at the same places, in front of a list that says the same
-  pub judged-row : {G : ℕ → Type 0} {ds : List Check} {end : Answer → Type 0} → ((p : ℕ) → F p → G p) → ((p : ℕ) → G p → F p) → (None G → Judged cs done a → Judged ds end a)
+  pub judged_row : {G : ℕ → Type 0} {ds : List Check} {end : Answer → Type 0} → ((p : ℕ) → F p → G p) → ((p : ℕ) → G p → F p) → (None G → Judged cs done a → Judged ds end a)
       → Judged (check n F ∷ cs) done a → Judged (check n G ∷ ds) end a
-  judged-row {G} to from then v =
-      judged-or v
+  judged_row {G} to from then v =
+      judged_or v
       (λ l e. record { verdict = refused (record { here = to _ l.here; first = λ p h g. l.first p h (from p g) }) e })
       (λ m w. let none : None G = record { nowhere = λ p g. m.nowhere p (from p g) } in pass none (then none w))
 
   -- the same check
-  pub judged-same : {ds : List Check} {end : Answer → Type 0} → (Judged cs done a → Judged ds end a) → Judged (check n F ∷ cs) done a → Judged (check n F ∷ ds) end a
-  judged-same f = judged-row (λ p x. x) (λ p x. x) (λ _. f)
+  pub judged_same : {ds : List Check} {end : Answer → Type 0} → (Judged cs done a → Judged ds end a) → Judged (check n F ∷ cs) done a → Judged (check n F ∷ ds) end a
+  judged_same f = judged_row (λ p x. x) (λ p x. x) (λ _. f)
 
 -- the check of what is fit, where it is
 pub judged_within : {G : Type 0} {F : ℕ → Type 0} {n : ℕ} {cs : List Check} {done : Answer → Type 0} {a : Answer} → G → Judged (check n (Within G F) ∷ cs) done a → Judged (check n F ∷ cs) done a
-judged_within g = judged-row (λ p x. x.fault) (λ p f. record { fit = g; fault = f }) (λ _ v. v)
+judged_within g = judged_row (λ p x. x.fault) (λ p f. record { fit = g; fault = f }) (λ _ v. v)
 
 -- where P is not met, nor is what P follows from
 pub unless : {P Q : Type 0} → (Q → P) → (p : ℕ) → Unless P p → Unless Q p

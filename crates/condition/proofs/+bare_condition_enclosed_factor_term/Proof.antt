@@ -11,7 +11,7 @@ use Rattle.condition.specs.Grammar.{or as orJoin, and as andJoin}
 use Rattle.condition.specs.Condition.{parentheses}
 use Rattle.condition.specs.inner.Parts.{reads, stops}
 use Rattle.condition.proofs.Readings.{Passed, passed_none}
-use Rattle.condition.proofs.Parts.{is-value, is-bad, negated-found, negated-fails, one-too-many, closed-found, inside-fails, unclosed-fails, join-found, join_more, join-fails}
+use Rattle.condition.proofs.Parts.{is_value, is_bad, negated_found, negated_fails, one_too_many, closed_found, inside_fails, unclosed_fails, join_found, join_more, join_fails}
 use Rattle.condition.proofs.bare.Reads as bare
 use Rattle.condition.proofs.bare.Kinds as bare-kinds
 use Rattle.condition.proofs.+bare_condition_enclosed_factor_term.Lts-bare as bare-lts
@@ -116,25 +116,25 @@ pub +bare-condition-enclosed-factor-term-spec : {M : Type 1} → statement M
     (λ c. passed_none orJoin)
     (λ c κs. search rules)
     (λ c. search rules)
-    (λ c. stops (join-fails orJoin c.before.before.before.before.loop.invariant (is-bad c.before.place.given.1 c.before.before.before.term.ensures)))
+    (λ c. stops (join_fails orJoin c.before.before.before.before.loop.invariant (is_bad c.before.place.given.1 c.before.before.before.term.ensures)))
     (λ c. search rules)
     (λ c κs. search rules)
     (λ c. let here = c.before.stands.ensures.holds c.if1.true in omega arith)
     (λ c.
     let here = c.before.stands.ensures.holds c.if1.true in
-    let x = is-value c.before.before.before.holds.given.1 c.before.before.before.before.before.term.ensures in
+    let x = is_value c.before.before.before.holds.given.1 c.before.before.before.before.before.term.ensures in
     omega arith)
     (λ c.
-    let x = is-value c.before.before.before.holds.given.1 c.before.before.before.before.before.term.ensures in
+    let x = is_value c.before.before.before.holds.given.1 c.before.before.before.before.before.term.ensures in
     join_more orJoin c.before.before.before.before.before.before.loop.invariant x (c.before.stands.ensures.holds c.if1.true))
     (λ c.
-    let x = is-value c.before.before.before.holds.given.1 c.before.before.before.before.before.term.ensures in
-    reads (join-found orJoin c.before.before.before.before.before.before.loop.invariant x (c.before.stands.ensures.fails c.if1.false))))
+    let x = is_value c.before.before.before.holds.given.1 c.before.before.before.before.before.term.ensures in
+    reads (join_found orJoin c.before.before.before.before.before.before.loop.invariant x (c.before.stands.ensures.fails c.if1.false))))
     (λ t. enclosed-lts.spec
     (condition-below t, condition.Post, stands-reads.Asked, stands-reads.Learnt)
     (enclosed-at t)
     enclosed.Post
-    (λ c. stops (one-too-many c.before.before.requires.1 (omega arith)))
+    (λ c. stops (one_too_many c.before.before.requires.1 (omega arith)))
     (λ c. let here = c.before.before.requires.1 in omega arith)
     (λ c. search rules)
     (λ c κs. let here = c.before.before.requires.1 in search rules)
@@ -143,17 +143,17 @@ pub +bare-condition-enclosed-factor-term-spec : {M : Type 1} → statement M
     (λ c κs. search rules)
     (λ c. let here = c.before.stands.ensures.holds c.if2.true in omega arith)
     (λ c.
-    let f = is-bad c.before.place.given.1 c.before.before.before.condition.ensures in
+    let f = is_bad c.before.place.given.1 c.before.before.before.condition.ensures in
     let h = c.before.before.before.before.if1.false in
-    stops (inside-fails c.before.before.before.before.before.before.requires.1 (omega arith) f))
+    stops (inside_fails c.before.before.before.before.before.before.requires.1 (omega arith) f))
     (λ c.
-    let x = is-value c.before.before.before.holds.given.1 c.before.before.before.before.before.condition.ensures in
+    let x = is_value c.before.before.before.holds.given.1 c.before.before.before.before.before.condition.ensures in
     let h = c.before.before.before.before.before.before.if1.false in
-    reads (closed-found c.before.before.before.before.before.before.before.before.requires.1 (omega arith) x (c.before.stands.ensures.holds c.if2.true)))
+    reads (closed_found c.before.before.before.before.before.before.before.before.requires.1 (omega arith) x (c.before.stands.ensures.holds c.if2.true)))
     (λ c.
-    let x = is-value c.before.before.before.holds.given.1 c.before.before.before.before.before.condition.ensures in
+    let x = is_value c.before.before.before.holds.given.1 c.before.before.before.before.before.condition.ensures in
     let h = c.before.before.before.before.before.before.if1.false in
-    stops (unclosed-fails c.before.before.before.before.before.before.before.before.requires.1 (omega arith) x (c.before.stands.ensures.fails c.if2.false))))
+    stops (unclosed_fails c.before.before.before.before.before.before.before.before.requires.1 (omega arith) x (c.before.stands.ensures.fails c.if2.false))))
     (λ t. factor-lts.spec
     (bangs-reads.Asked, bangs-reads.Learnt, bare-below t, bare.Post)
     (factor-at t)
@@ -162,8 +162,8 @@ pub +bare-condition-enclosed-factor-term-spec : {M : Type 1} → statement M
     (λ c κs. (let k = c.bangs.ensures.0 in omega arith, c.bangs.ensures.1))
     (λ c. search rules)
     (λ c. search rules)
-    (λ c. stops (negated-fails c.before.before.before.before.bangs.ensures.0 (is-bad c.before.place.given.1 c.before.before.before.bare.ensures)))
-    (λ c. reads (negated-found c.before.before.before.before.bangs.ensures.0 (is-value c.before.holds.given.1 c.before.before.before.bare.ensures))))
+    (λ c. stops (negated_fails c.before.before.before.before.bangs.ensures.0 (is_bad c.before.place.given.1 c.before.before.before.bare.ensures)))
+    (λ c. reads (negated_found c.before.before.before.before.bangs.ensures.0 (is_value c.before.holds.given.1 c.before.before.before.bare.ensures))))
     λ t. term-lts.spec
     (factor-below t, factor.Post, stands-reads.Asked, stands-reads.Learnt)
     (term-at t)
@@ -173,17 +173,17 @@ pub +bare-condition-enclosed-factor-term-spec : {M : Type 1} → statement M
     (λ c. passed_none andJoin)
     (λ c κs. search rules)
     (λ c. search rules)
-    (λ c. stops (join-fails andJoin c.before.before.before.before.loop.invariant (is-bad c.before.place.given.1 c.before.before.before.factor.ensures)))
+    (λ c. stops (join_fails andJoin c.before.before.before.before.loop.invariant (is_bad c.before.place.given.1 c.before.before.before.factor.ensures)))
     (λ c. search rules)
     (λ c κs. search rules)
     (λ c. let here = c.before.stands.ensures.holds c.if1.true in omega arith)
     (λ c.
     let here = c.before.stands.ensures.holds c.if1.true in
-    let x = is-value c.before.before.before.holds.given.1 c.before.before.before.before.before.factor.ensures in
+    let x = is_value c.before.before.before.holds.given.1 c.before.before.before.before.before.factor.ensures in
     omega arith)
     (λ c.
-    let x = is-value c.before.before.before.holds.given.1 c.before.before.before.before.before.factor.ensures in
+    let x = is_value c.before.before.before.holds.given.1 c.before.before.before.before.before.factor.ensures in
     join_more andJoin c.before.before.before.before.before.before.loop.invariant x (c.before.stands.ensures.holds c.if1.true))
     (λ c.
-    let x = is-value c.before.before.before.holds.given.1 c.before.before.before.before.before.factor.ensures in
-    reads (join-found andJoin c.before.before.before.before.before.before.loop.invariant x (c.before.stands.ensures.fails c.if1.false)))
+    let x = is_value c.before.before.before.holds.given.1 c.before.before.before.before.before.factor.ensures in
+    reads (join_found andJoin c.before.before.before.before.before.before.loop.invariant x (c.before.stands.ensures.fails c.if1.false)))

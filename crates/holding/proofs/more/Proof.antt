@@ -1,11 +1,11 @@
 -- `more` adds the setting where the condition holds.
 use borrow.Author.Rules.{rules}
-use Rattle.sets.proofs.Arrays.{set-in, set_out}
+use Rattle.sets.proofs.Arrays.{set_in, set_out}
 use Rattle.holding.proofs.more.Statement.{statement}
 use Rattle.holding.proofs.more.Tie as tie
 
 returns : tie.Need-returns
-returns c = set-in c.before.before.before.before.requires.1 c.before.before.before.before.requires.0 (c.before.before.holds.ensures.holds c.before.if1.true) c.with.ensures.0 c.with.ensures.1
+returns c = set_in c.before.before.before.before.requires.1 c.before.before.before.before.requires.0 (c.before.before.holds.ensures.holds c.before.if1.true) c.with.ensures.0 c.with.ensures.1
 
 returns-2 : tie.Need-returns-2
 returns-2 c = set_out c.before.before.before.requires.1 (c.before.holds.ensures.fails c.if1.false)

@@ -4,7 +4,7 @@ use native.Mathlib.Omega.{arith}
 use mathlib.Core.Path.{◌≡◌, subst, ◌∙◌}
 use Prim.Native.Nat.{ℕ, ◌-◌, ◌≤◌}
 use Rattle.sets.specs.Sets.{words, SetOf}
-use Rattle.sets.proofs.Arrays.{set-none}
+use Rattle.sets.proofs.Arrays.{set_none}
 use Rattle.condition.specs.Condition.{Holds}
 use Rattle.holding.proofs.set_of.Statement.{statement}
 use Rattle.holding.proofs.set_of.Tie as tie
@@ -16,7 +16,7 @@ abbrev decreases-loop : tie.decreases-loop
 decreases-loop text inputs set₀ v₀ v-end set v = v-end - v
 
 loop-holds : tie.Need-loop-init invariant-loop decreases-loop
-loop-holds c = (omega arith, set-none words 0 (λ v l. absurd (omega arith)))
+loop-holds c = (omega arith, set_none words 0 (λ v l. absurd (omega arith)))
 
 more-requires : tie.Need-more-requires invariant-loop decreases-loop
 more-requires c κs = (omega (arith, c.before.before.settings.ensures.0.1, c.loop-test.true), c.before.loop.invariant.1)

@@ -20,7 +20,7 @@ slice-write-ranks : tie.Need-slice-write-ranks invariant-loop decreases-loop
 slice-write-ranks c = omega (arith, c.before.before.before.loop.invariant.2.same_length)
 
 loop-again : tie.Need-loop-preserved invariant-loop decreases-loop
-loop-again c = (omega arith, omega arith, filled_more c.before.before.before.loop.invariant.2 (omega arith) c.rank_of_lem.ensures)
+loop-again c = (omega arith, omega arith, filled_more c.before.before.before.loop.invariant.2 (omega arith) c.rank_of.ensures)
 
 pub give-ranks-spec : {M : Type 1} → statement M
 give-ranks-spec =

@@ -45,7 +45,7 @@ module _ (m : Machine) where
     pub all : (c : ℕ) → c < couples m → (get_or R c 0 ≡ unweighed → ⊥) → (i : ℕ) × (i < tail) × (get_or Q i 0 ≡ c)
     pub marked : (i : ℕ) → i < tail → get_or R (get_or Q i 0) 0 ≡ unweighed → ⊥
     pub sorted : (i j : ℕ) → i ≤ j → j < tail → get_or R (get_or Q i 0) 0 ≤ get_or R (get_or Q j 0) 0
-    pub single-had : (i : ℕ) → i < a → i < tail → get_or R (get_or Q i 0) 0 < k
-    pub single-left : (i : ℕ) → a ≤ i → i < tail → k ≤ get_or R (get_or Q i 0) 0
-    pub multiple-had : (i : ℕ) → i < b → i < tail → get_or R (get_or Q i 0) 0 + extra < k
-    pub multiple-left : (i : ℕ) → b ≤ i → i < tail → k ≤ get_or R (get_or Q i 0) 0 + extra
+    pub single_had : (i : ℕ) → i < a → i < tail → get_or R (get_or Q i 0) 0 < k
+    pub single_left : (i : ℕ) → a ≤ i → i < tail → k ≤ get_or R (get_or Q i 0) 0
+    pub multiple_had : (i : ℕ) → i < b → i < tail → get_or R (get_or Q i 0) 0 + extra < k
+    pub multiple_left : (i : ℕ) → b ≤ i → i < tail → k ≤ get_or R (get_or Q i 0) 0 + extra

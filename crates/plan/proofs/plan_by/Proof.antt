@@ -2,8 +2,8 @@
 use mathlib.Core.Path.{refl}
 use native.Mathlib.Omega.{arith}
 use borrow.Author.Rules.{rules}
-use Rattle.plan.proofs.Marked.{ready, few-couples, run_short_lem, room}
-use Rattle.plan.proofs.Outcomes.{plan_refused, plan-ends}
+use Rattle.plan.proofs.Marked.{ready, few_couples, run_short_lem, room}
+use Rattle.plan.proofs.Outcomes.{plan_refused, plan_ends}
 use Rattle.plan.proofs.plan_by.Statement.{statement}
 use Rattle.plan.proofs.plan_by.Tie as tie
 
@@ -15,7 +15,7 @@ returns c =
 mul-plan-marked : tie.Need-overflow-mul-plan-marked
 mul-plan-marked c =
     let (y, e) = ready c.before.before.before.before.before.before.before.before.before.before.mark-parents.ensures refl refl c.before.before.before.before.if1.false c.before.before.before.settings.ensures.0.0 in
-    rw e (omega (arith, few-couples y))
+    rw e (omega (arith, few_couples y))
 
 plan-marked-requires : tie.Need-plan-marked-requires
 plan-marked-requires c κs =
@@ -26,7 +26,7 @@ returns-2 : tie.Need-returns-2
 returns-2 c =
     let a = c.before.before.before.before.before.before.before.before.before.before.before.before.before.before.before.before.before.before.before.before.before.args in
     let (y, e) = ready c.before.before.before.before.before.before.before.before.before.before.before.before.before.before.mark-parents.ensures refl refl c.before.before.before.before.before.before.before.before.if1.false c.before.before.before.before.before.before.before.settings.ensures.0.0 in
-    plan-ends a.several a.frame a.table.now y (rw e at c.before.before.plan_marked.ensures)
+    plan_ends a.several a.frame a.table.now y (rw e at c.before.before.plan_marked.ensures)
 
 pub plan-by-spec : {M : Type 1} → statement M
 plan-by-spec =

@@ -2,20 +2,20 @@
 use mathlib.Core.Path.{refl}
 use native.Mathlib.Omega.{arith}
 use borrow.Author.Rules.{rules}
-use Rattle.plan.proofs.Marked.{ready, few-couples, tree}
-use Rattle.plan.proofs.Outcomes.{run-refused, run_ends}
+use Rattle.plan.proofs.Marked.{ready, few_couples, tree}
+use Rattle.plan.proofs.Outcomes.{run_refused, run_ends}
 use Rattle.plan.proofs.run_by.Statement.{statement}
 use Rattle.plan.proofs.run_by.Tie as tie
 
 returns : tie.Need-returns
 returns c =
     let a = c.before.before.before.before.before.before.before.before.before.before.before.before.before.args in
-    run-refused a.several a.frame a.table.now c.before.before.before.before.before.before.mark-parents.ensures refl refl c.if1.true a.couple a.run.now
+    run_refused a.several a.frame a.table.now c.before.before.before.before.before.before.mark-parents.ensures refl refl c.if1.true a.couple a.run.now
 
 mul-run-marked : tie.Need-overflow-mul-run-marked
 mul-run-marked c =
     let (y, e) = ready c.before.before.before.before.before.before.before.before.before.before.mark-parents.ensures refl refl c.before.before.before.before.if1.false c.before.before.before.settings.ensures.0.0 in
-    rw e (omega (arith, few-couples y))
+    rw e (omega (arith, few_couples y))
 
 run-marked-requires : tie.Need-run-marked-requires
 run-marked-requires c κs =

@@ -25,8 +25,8 @@ wanted several weights visited c = cond (looks_at several (get_or weights c 0)) 
 
 module _ (several : Bool) (table parents weights : List ℕ) (size : ℕ) where
   -- couple c in its turn: what is visited after it, and the bytes of its stored run
-  unfoldable pub notedAt : ℕ → List Bool → List Bool
-  notedAt c visited = cond (wanted several weights visited c) (noted_run table parents size c (get_or weights c 0 % extra) visited) visited
+  unfoldable pub noted_at : ℕ → List Bool → List Bool
+  noted_at c visited = cond (wanted several weights visited c) (noted_run table parents size c (get_or weights c 0 % extra) visited) visited
 
   unfoldable pub bytes_at : ℕ → List Bool → ℕ
   bytes_at c visited = cond (wanted several weights visited c) (get_or weights c 0 % extra + cond several 5 3) 0
@@ -34,7 +34,7 @@ module _ (several : Bool) (table parents weights : List ℕ) (size : ℕ) where
   -- the first c couples in rising number, each so: what is visited, which are chosen, the bytes of the stored runs
   unfoldable pub noted : ℕ → List Bool → List Bool
   noted zero visited = visited
-  noted (suc c) visited = notedAt c (noted c visited)
+  noted (suc c) visited = noted_at c (noted c visited)
 
   unfoldable pub flags : ℕ → List Bool → List Bool → List Bool
   flags zero visited chosen = chosen
@@ -52,17 +52,17 @@ module _ (several : Bool) (table parents weights : List ℕ) (size : ℕ) where
 
   -- couple c in its turn took flags of visited and chosen couples from the first two lists to the last two, and n bytes
   pub record Turn (c n : ℕ) (visited chosen visited' chosen' : List Bool) : Type 0 where
-    pub bytes-are : n ≡ bytes_at c visited
-    pub bytes-few : n ≤ unmarked + 5
-    pub visited-are : visited' ≡ notedAt c visited
-    pub chosen-are : chosen' ≡ set chosen c (wanted several weights visited c)
+    pub bytes_are : n ≡ bytes_at c visited
+    pub bytes_few : n ≤ unmarked + 5
+    pub visited_are : visited' ≡ noted_at c visited
+    pub chosen_are : chosen' ≡ set chosen c (wanted several weights visited c)
 
   -- and so did the first c couples
   pub record Chosen (c n : ℕ) (visited chosen visited' chosen' : List Bool) : Type 0 where
-    pub bytes-are : n ≡ bytes c visited
-    pub bytes-few : n ≤ c * (unmarked + 5)
-    pub visited-are : visited' ≡ noted c visited
-    pub chosen-are : chosen' ≡ flags c visited chosen
+    pub bytes_are : n ≡ bytes c visited
+    pub bytes_few : n ≤ c * (unmarked + 5)
+    pub visited_are : visited' ≡ noted c visited
+    pub chosen_are : chosen' ≡ flags c visited chosen
 
 -- the couples that a change from couple p to setting v visits are elements of a table and of a list of so many flags
 pub record Reach (table : List ℕ) (size flags p v : ℕ) : Type 0 where

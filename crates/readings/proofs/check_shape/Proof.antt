@@ -8,7 +8,7 @@ use borrow.Author.Tests.{not-true, not-false}
 use Rattle.verdict.specs.Checks.{Judged, Passed, room_checks}
 use Rattle.verdict.proofs.Order.{pass, halt}
 use Rattle.verdict.proofs.Tests.{whole, meets}
-use Rattle.machine.proofs.Sizes.{couples-are, couples_few}
+use Rattle.machine.proofs.Sizes.{couples_are, couples_few}
 use Rattle.readings.proofs.check_shape.Statement.{statement}
 use Rattle.readings.proofs.check_shape.Tie as tie
 
@@ -21,7 +21,7 @@ returns-2 c = λ several. halt (whole (λ x. omega (arith, x.few_settings)))
 mul-t12 : tie.Need-overflow-mul-t12
 mul-t12 c =
     let z = c.before.before.before.before.sized.ensures.holds (not-false _ c.before.before.before.if1.false) in
-    omega (arith, couples-are z c.before.settings.ensures.0.0, couples_few z)
+    omega (arith, couples_are z c.before.settings.ensures.0.0, couples_few z)
 
 returns-3 : tie.Need-returns-3
 returns-3 c = λ several.
@@ -29,7 +29,7 @@ returns-3 c = λ several.
     let z = c.before.before.before.before.before.before.sized.ensures.holds (not-false _ c.before.before.before.before.before.if1.false) in
     pass (meets (record { sizes = z; few_settings = c.before.before.before.before.if2.false }))
     (subst₂ (λ (k n : ℕ). Judged (room_checks (record { needed = k; has = length a.table.now }) (record { needed = a.frame.states; has = length a.words.now }) (record { needed = n; has = a.room })) Passed c.check-rooms.result)
-    (couples-are z c.before.before.before.settings.ensures.0.0) c.before.needed.ensures c.check-rooms.ensures)
+    (couples_are z c.before.before.before.settings.ensures.0.0) c.before.needed.ensures c.check-rooms.ensures)
 
 pub check-shape-spec : {M : Type 1} → statement M
 check-shape-spec =

@@ -5,24 +5,24 @@ use mathlib.Core.Path.{◌≡◌, ap, ◌∙◌}
 use Prim.Native.Nat.{ℕ, ◌+◌, ◌*◌, ◌^◌, ◌<◌}
 use Rattle.machine.specs.Runs.{machine_of, move}
 use Rattle.machine.proofs.Couples.{moves}
-use Rattle.tables.proofs.Gate.{shifted, couple-inside, couple-move}
+use Rattle.tables.proofs.Gate.{shifted, couple_inside, couple_move}
 use Rattle.shorten.proofs.change.Statement.{statement}
 use Rattle.shorten.proofs.change.Tie as tie
 
 add-entered : tie.Need-overflow-add-entered
-add-entered c = let p = c.before.before.requires in omega (arith, couple-inside p.0.tabled p.1 p.2)
+add-entered c = let p = c.before.before.requires in omega (arith, couple_inside p.0.tabled p.1 p.2)
 
 shared-slice-read-wide : tie.Need-shared-slice-read-wide
-shared-slice-read-wide c = let p = c.before.before.before.requires in couple-inside p.0.tabled p.1 p.2
+shared-slice-read-wide c = let p = c.before.before.before.requires in couple_inside p.0.tabled p.1 p.2
 
 is_move : (c : tie.After-wide) → let a = c.before.before.before.before.args in c.wide.result ≡ move (machine_of a.frame a.table.now) a.s a.w
-is_move c = let p = c.before.before.before.before.requires in c.wide.ensures.0 ∙ couple-move p.0.tabled p.1 p.2
+is_move c = let p = c.before.before.before.before.requires in c.wide.ensures.0 ∙ couple_move p.0.tabled p.1 p.2
 
 is_state : (c : tie.After-wide) → c.wide.result < c.before.before.before.before.args.frame.states
 is_state c = let p = c.before.before.before.before.requires in rw (is_move c) (moves p.0.sound _ _ p.1 p.2)
 
 add-t10 : tie.Need-overflow-add-t10
-add-t10 c = let p = c.before.before.before.before.before.requires in omega (arith, couple-inside p.0.tabled (is_state c.before) p.2)
+add-t10 c = let p = c.before.before.before.before.before.requires in omega (arith, couple_inside p.0.tabled (is_state c.before) p.2)
 
 returns : tie.Need-returns
 returns c =

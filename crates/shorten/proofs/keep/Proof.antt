@@ -6,7 +6,7 @@ use lib.ListN.{length}
 use Rattle.machine.specs.Runs.{machine_of}
 use Rattle.runs.proofs.Front.{First, first_run}
 use Rattle.shorten.specs.inner.Passing.{settings_in}
-use Rattle.shorten.proofs.Keeping.{Keeping, keeping_start, same_length, keeping-ahead, keeping-turn, keeping-end}
+use Rattle.shorten.proofs.Keeping.{Keeping, keeping_start, same_length, keeping_ahead, keeping_turn, keeping_end}
 use Rattle.shorten.proofs.keep.Statement.{statement}
 use Rattle.shorten.proofs.keep.Tie as tie
 
@@ -21,7 +21,7 @@ loop-holds c = let p = c.before.before.before.requires in keeping_start p.0.0.ro
 
 here : (c : tie.After-run-end invariant-loop decreases-loop) → let a = c.before.before.before.before.before.before.before.args in let l = c.before.before.before.loop in
     First (machine_of a.frame a.table.now) l.plan l.at (settings_in l.at c.run-end.result l.plan) c.run-end.result
-here c = first_run (keeping-ahead c.before.before.before.loop.invariant) c.before.before.loop-test.true c.run-end.ensures
+here c = first_run (keeping_ahead c.before.before.before.loop.invariant) c.before.before.loop-test.true c.run-end.ensures
 
 keep-one-requires : tie.Need-keep-one-requires invariant-loop decreases-loop
 keep-one-requires c κs =
@@ -31,14 +31,14 @@ keep-one-requires c κs =
 
 add-to : tie.Need-overflow-add-to invariant-loop decreases-loop
 add-to c =
-    let n = keeping-turn c.before.before.before.before.before.before.before.before.before.before.loop.invariant (here c.before.before.before.before.before.before.before) c.before.before.before.before.before.before.before.before.before.before.before.before.before.before.requires.0.0.checked.sound c.before.before.before.before.keep_one.ensures in
+    let n = keeping_turn c.before.before.before.before.before.before.before.before.before.before.loop.invariant (here c.before.before.before.before.before.before.before) c.before.before.before.before.before.before.before.before.before.before.before.before.before.before.requires.0.0.checked.sound c.before.before.before.before.keep_one.ensures in
     omega (arith, n.low, n.within)
 
 loop-less : tie.Need-loop-smaller invariant-loop decreases-loop
 loop-less c = let h = (here c.before.before.before.before.before.before.before).at in let k = c.before.before.before.before.before.before.before.before.before.before.loop.invariant in omega (arith, h.ends, h.within, same_length k)
 
 loop-again : tie.Need-loop-preserved invariant-loop decreases-loop
-loop-again c = keeping-turn c.before.before.before.before.before.before.before.before.before.before.loop.invariant (here c.before.before.before.before.before.before.before) c.before.before.before.before.before.before.before.before.before.before.before.before.before.before.requires.0.0.checked.sound c.before.before.before.before.keep_one.ensures
+loop-again c = keeping_turn c.before.before.before.before.before.before.before.before.before.before.loop.invariant (here c.before.before.before.before.before.before.before) c.before.before.before.before.before.before.before.before.before.before.before.before.before.before.requires.0.0.checked.sound c.before.before.before.before.keep_one.ensures
 
 pub keep_spec : {M : Type 1} → statement M
 keep_spec =
@@ -54,4 +54,4 @@ keep_spec =
     loop-again
     (λ c. same_length c.before.loop.invariant)
     (λ c. c.before.loop.invariant.as_long)
-    (λ c. keeping-end c.before.loop.invariant (omega (arith, c.loop-test.false)) c.before.before.before.before.before.requires.0.1))
+    (λ c. keeping_end c.before.loop.invariant (omega (arith, c.loop-test.false)) c.before.before.before.before.before.requires.0.1))

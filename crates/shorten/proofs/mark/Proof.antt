@@ -6,7 +6,7 @@ use Prim.Native.Nat.{◌-◌, ◌<◌, ◌^◌}
 use lib.ListN.{length, length-set}
 use Rattle.machine.specs.Runs.{machine_of}
 use Rattle.shorten.specs.inner.Passing.{Ground}
-use Rattle.shorten.proofs.Walking.{next-state, entered-inside, moved_inside, Marking, marking_start, marking-more, marking-end}
+use Rattle.shorten.proofs.Walking.{next_state, entered_inside, moved_inside, Marking, marking_start, marking_more, marking_end}
 use Rattle.shorten.proofs.mark.Statement.{statement}
 use Rattle.shorten.proofs.mark.Tie as tie
 
@@ -29,7 +29,7 @@ ground : (c : tie.After-change invariant-loop decreases-loop) → let a = c.befo
 ground c = rw c.before.before.before.loop.invariant.as_long c.before.before.before.before.before.before.before.requires.ground
 
 entered : (c : tie.After-change invariant-loop decreases-loop) → c.change.result.entered < length c.before.before.before.loop.marks
-entered c = entered-inside (ground c) c.before.before.before.loop.invariant.state (below c.before) c.change.ensures
+entered c = entered_inside (ground c) c.before.before.before.loop.invariant.state (below c.before) c.change.ensures
 
 moved : (c : tie.After-change invariant-loop decreases-loop) → c.change.result.moved < length c.before.before.before.loop.marks
 moved c = moved_inside (ground c) c.before.before.before.loop.invariant.state (below c.before) c.change.ensures
@@ -37,12 +37,12 @@ moved c = moved_inside (ground c) c.before.before.before.loop.invariant.state (b
 loop-again : tie.Need-loop-preserved invariant-loop decreases-loop
 loop-again c =
     let l = c.before.before.before.loop in
-    marking-more l.invariant c.before.before.loop-test.true c.before.setting.ensures.0 (next-state (ground c) l.invariant.state (below c.before) c.change.ensures) c.change.ensures
+    marking_more l.invariant c.before.before.loop-test.true c.before.setting.ensures.0 (next_state (ground c) l.invariant.state (below c.before) c.change.ensures) c.change.ensures
 
 returns : tie.Need-returns invariant-loop decreases-loop
 returns c =
     let e : c.before.loop.i ≡ length c.before.before.before.before.before.args.run.now = omega (arith, c.before.loop.invariant.within) in
-    marking-end c.before.loop.invariant e
+    marking_end c.before.loop.invariant e
 
 pub mark_spec : {M : Type 1} → statement M
 mark_spec =

@@ -5,7 +5,7 @@ use mathlib.Core.Path.{◌≡◌}
 use Prim.Native.Nat.{◌-◌, ◌<◌, ◌^◌}
 use lib.ListN.{length}
 use Rattle.machine.specs.Runs.{machine_of}
-use Rattle.shorten.proofs.Walking.{next-state, entered-inside, moved_inside, Reaching, reaching_start, reaching-entered, reaching-moved, reaching-more, reaching-end}
+use Rattle.shorten.proofs.Walking.{next_state, entered_inside, moved_inside, Reaching, reaching_start, reaching_entered, reaching_moved, reaching_more, reaching_end}
 use Rattle.shorten.proofs.reach.Statement.{statement}
 use Rattle.shorten.proofs.reach.Tie as tie
 
@@ -25,31 +25,31 @@ change-requires : tie.Need-change-requires invariant-loop decreases-loop
 change-requires c κs = (c.before.before.before.before.before.before.requires.ground.checked, c.before.before.loop.invariant.state, below c)
 
 entered : (c : tie.After-change invariant-loop decreases-loop) → c.change.result.entered < length c.before.before.before.before.before.before.before.args.marks.now
-entered c = entered-inside c.before.before.before.before.before.before.before.requires.ground c.before.before.before.loop.invariant.state (below c.before) c.change.ensures
+entered c = entered_inside c.before.before.before.before.before.before.before.requires.ground c.before.before.before.loop.invariant.state (below c.before) c.change.ensures
 
 moved : (c : tie.After-change invariant-loop decreases-loop) → c.change.result.moved < length c.before.before.before.before.before.before.before.args.marks.now
 moved c = moved_inside c.before.before.before.before.before.before.before.requires.ground c.before.before.before.loop.invariant.state (below c.before) c.change.ensures
 
 returns : tie.Need-returns invariant-loop decreases-loop
 returns c = let b = c.before.before in
-    reaching-entered b.before.before.before.loop.invariant b.before.before.loop-test.true b.before.setting.ensures.0 b.change.ensures c.if1.true
+    reaching_entered b.before.before.before.loop.invariant b.before.before.loop-test.true b.before.setting.ensures.0 b.change.ensures c.if1.true
 
 returns-2 : tie.Need-returns-2 invariant-loop decreases-loop
 returns-2 c = let b = c.before.before.before.before in
-    reaching-moved b.before.before.before.loop.invariant b.before.before.loop-test.true b.before.setting.ensures.0 b.change.ensures c.if2.true
+    reaching_moved b.before.before.before.loop.invariant b.before.before.loop-test.true b.before.setting.ensures.0 b.change.ensures c.if2.true
 
 loop-again : tie.Need-loop-preserved invariant-loop decreases-loop
 loop-again c =
     let b = c.before.before.before.before in
     let l = b.before.before.before.loop in
-    reaching-more l.invariant b.before.before.loop-test.true b.before.setting.ensures.0 b.change.ensures
-    (next-state b.before.before.before.before.before.before.before.requires.ground l.invariant.state (below b.before) b.change.ensures)
+    reaching_more l.invariant b.before.before.loop-test.true b.before.setting.ensures.0 b.change.ensures
+    (next_state b.before.before.before.before.before.before.before.requires.ground l.invariant.state (below b.before) b.change.ensures)
     (omega (arith, c.before.before.if1.false)) (omega (arith, c.if2.false))
 
 returns-3 : tie.Need-returns-3 invariant-loop decreases-loop
 returns-3 c =
     let e : c.before.loop.i ≡ length c.before.before.before.before.before.args.run.now = omega (arith, c.before.loop.invariant.within) in
-    reaching-end c.before.loop.invariant e
+    reaching_end c.before.loop.invariant e
 
 pub reach-spec : {M : Type 1} → statement M
 reach-spec =

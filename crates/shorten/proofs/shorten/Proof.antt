@@ -3,7 +3,7 @@ use borrow.Author.Rules.{rules}
 use Rattle.sets.proofs.Members.{zeros}
 use Rattle.machine.specs.Limits.{most_couples}
 use Rattle.machine.specs.Runs.{machine_of}
-use Rattle.shorten.proofs.Outcomes.{no_table, no-runs, ground, split, done}
+use Rattle.shorten.proofs.Outcomes.{no_table, no_runs, ground, split, done}
 use Rattle.shorten.proofs.shorten.Statement.{statement}
 use Rattle.shorten.proofs.shorten.Tie as tie
 
@@ -11,7 +11,7 @@ returns : tie.Need-returns
 returns c = let a = c.before.before.before.before.before.args in no_table (machine_of a.frame a.table.now) a.plan.now c.before.before.check-table.ensures c.if1.true
 
 returns-2 : tie.Need-returns-2
-returns-2 c = let a = c.before.before.before.before.before.before.before.before.before.args in no-runs (machine_of a.frame a.table.now) a.plan.now c.before.before.before.before.before.before.check-table.ensures c.before.before.before.before.if1.false c.before.before.check-plan.ensures c.if2.true
+returns-2 c = let a = c.before.before.before.before.before.before.before.before.before.args in no_runs (machine_of a.frame a.table.now) a.plan.now c.before.before.before.before.before.before.check-table.ensures c.before.before.before.before.if1.false c.before.before.check-plan.ensures c.if2.true
 
 mark-all-requires : tie.Need-mark-all-requires
 mark-all-requires c κs =

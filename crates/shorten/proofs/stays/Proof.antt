@@ -9,7 +9,7 @@ use Rattle.verdict.proofs.Fills.{rest_lent}
 use Rattle.machine.specs.Runs.{machine_of}
 use Rattle.shorten.specs.inner.Passing.{Walkable, Stops, Stay}
 use Rattle.shorten.specs.inner.Passing.Stay.{goes, stays}
-use Rattle.shorten.proofs.Walking.{walk_run, walk_rest, mark-rest, rest-reaches, rest-fails}
+use Rattle.shorten.proofs.Walking.{walk_run, walk_rest, mark_rest, rest_reaches, rest_fails}
 use Rattle.shorten.proofs.stays.Statement.{statement}
 use Rattle.shorten.proofs.stays.Tie as tie
 
@@ -31,7 +31,7 @@ second c = rw rest_lent at c.reach2.ensures
 
 returns : tie.Need-returns
 returns c = let p = c.before.before.before.before.before.before.before.before.before.before.requires in
-    goes (rest-reaches p.0.1 p.1.0 p.1.1 c.before.before.before.before.before.reach.ensures (second c.before.before) (rw length-drop c.if1.true))
+    goes (rest_reaches p.0.1 p.1.0 p.1.1 c.before.before.before.before.before.reach.ensures (second c.before.before) (rw length-drop c.if1.true))
 
 mark-requires : tie.Need-mark-requires
 mark-requires c κs = rw rest_lent (rest c.before.before.before.before.before.before.before)
@@ -42,8 +42,8 @@ returns-2 c =
     let p = a.requires in
     let k = c.before.before.before.before.before.before.before.before.before.before.reach.ensures in
     rw (c.before.before.mark.ensures, rest_lent)
-    (subst (Stay (machine_of a.args.frame a.args.table.now) a.args.run.now a.args.end a.args.total a.args.marks.now true) (sym (mark-rest p.0.1 p.1.0 p.1.1 k))
-    (stays (rest-fails p.0.1 p.1.0 p.1.1 k (second c.before.before.before.before.before.before.before) (λ e. c.before.before.before.before.before.if1.false (rw length-drop at e)))))
+    (subst (Stay (machine_of a.args.frame a.args.table.now) a.args.run.now a.args.end a.args.total a.args.marks.now true) (sym (mark_rest p.0.1 p.1.0 p.1.1 k))
+    (stays (rest_fails p.0.1 p.1.0 p.1.1 k (second c.before.before.before.before.before.before.before) (λ e. c.before.before.before.before.before.if1.false (rw length-drop at e)))))
 
 pub stays-spec : {M : Type 1} → statement M
 stays-spec =

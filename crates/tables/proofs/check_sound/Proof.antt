@@ -8,7 +8,7 @@ use Rattle.verdict.proofs.Order.{pass, halt, short, long, judged_on, judged_stop
 use Rattle.machine.specs.Runs.{machine_of}
 use Rattle.tables.specs.Tables.{move_checks, state_checks}
 use Rattle.machine.proofs.Sizes.{settings_are}
-use Rattle.tables.proofs.Gate.{size-told, small, reaches, moves-told, fits}
+use Rattle.tables.proofs.Gate.{size_told, small, reaches, moves_told, fits}
 use Rattle.tables.proofs.check_sound.Statement.{statement}
 use Rattle.tables.proofs.check_sound.Tie as tie
 
@@ -22,27 +22,27 @@ returns-2 c = judged_on 3 c.before.before.before.before.check-sizes.ensures refl
 
 check-moves-requires : tie.Need-check-moves-requires
 check-moves-requires c κs =
-    let t = size-told (machine_of c.before.before.before.before.before.before.before.before.args.frame c.before.before.before.before.before.before.before.before.args.table.now) c.before.before.before.before.before.check-sizes.ensures c.before.before.before.if1.false in
+    let t = size_told (machine_of c.before.before.before.before.before.before.before.before.args.frame c.before.before.before.before.before.before.before.before.args.table.now) c.before.before.before.before.before.check-sizes.ensures c.before.before.before.if1.false in
     (small t.sized c.settings.ensures.0.0, reaches t c.settings.ensures.0.0)
 
 returns-3 : tie.Need-returns-3
 returns-3 c =
     let m = machine_of c.before.before.before.before.before.before.before.before.before.before.before.args.frame c.before.before.before.before.before.before.before.before.before.before.before.args.table.now in
-    let t = size-told m c.before.before.before.before.before.before.before.before.check-sizes.ensures c.before.before.before.before.before.before.if1.false in
+    let t = size_told m c.before.before.before.before.before.before.before.before.check-sizes.ensures c.before.before.before.before.before.before.if1.false in
     judged_on 3 c.before.before.before.before.before.before.before.before.check-sizes.ensures refl c.before.before.before.before.before.before.if1.false (pass (long c.before.before.before.before.if2.false)
-    (judged_stop (state_checks m c.before.before.before.before.before.before.before.before.before.before.before.args.words.now) (moves-told t.sized c.before.before.before.settings.ensures.0.0 c.before.before.before.before.before.before.before.before.before.before.before.args.table.now c.before.before.check-moves.ensures) c.if3.true))
+    (judged_stop (state_checks m c.before.before.before.before.before.before.before.before.before.before.before.args.words.now) (moves_told t.sized c.before.before.before.settings.ensures.0.0 c.before.before.before.before.before.before.before.before.before.before.before.args.table.now c.before.before.check-moves.ensures) c.if3.true))
 
 check-states-requires : tie.Need-check-states-requires
 check-states-requires c κs =
-    let t = size-told (machine_of c.before.before.before.before.before.before.before.before.before.before.before.args.frame c.before.before.before.before.before.before.before.before.before.before.before.args.table.now) c.before.before.before.before.before.before.before.before.check-sizes.ensures c.before.before.before.before.before.before.if1.false in
+    let t = size_told (machine_of c.before.before.before.before.before.before.before.before.before.before.before.args.frame c.before.before.before.before.before.before.before.before.before.before.before.args.table.now) c.before.before.before.before.before.before.before.before.check-sizes.ensures c.before.before.before.before.before.before.if1.false in
     let f = c.before.before.before.settings.ensures.0.0 in
     (t, fits t.sized f c.before.before.before.before.before.before.before.before.before.before.before.args.table.now (reaches t f) c.before.before.check-moves.ensures c.if3.false, c.before.before.before.before.if2.false, settings_are t.sized f)
 
 returns-4 : tie.Need-returns-4
 returns-4 c =
-    let t = size-told (machine_of c.before.before.before.before.before.before.before.before.before.before.before.before.args.frame c.before.before.before.before.before.before.before.before.before.before.before.before.args.table.now) c.before.before.before.before.before.before.before.before.before.check-sizes.ensures c.before.before.before.before.before.before.before.if1.false in
+    let t = size_told (machine_of c.before.before.before.before.before.before.before.before.before.before.before.before.args.frame c.before.before.before.before.before.before.before.before.before.before.before.before.args.table.now) c.before.before.before.before.before.before.before.before.before.check-sizes.ensures c.before.before.before.before.before.before.before.if1.false in
     judged_on 3 c.before.before.before.before.before.before.before.before.before.check-sizes.ensures refl c.before.before.before.before.before.before.before.if1.false (pass (long c.before.before.before.before.before.if2.false)
-    (judged_on 10 (moves-told t.sized c.before.before.before.before.settings.ensures.0.0 c.before.before.before.before.before.before.before.before.before.before.before.before.args.table.now c.before.before.before.check-moves.ensures) refl c.before.if3.false c.check-states.ensures))
+    (judged_on 10 (moves_told t.sized c.before.before.before.before.settings.ensures.0.0 c.before.before.before.before.before.before.before.before.before.before.before.before.args.table.now c.before.before.before.check-moves.ensures) refl c.before.if3.false c.check-states.ensures))
 
 pub check-sound-spec : {M : Type 1} → statement M
 check-sound-spec =

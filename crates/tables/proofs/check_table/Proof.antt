@@ -4,7 +4,7 @@ use mathlib.Core.Path.{refl}
 use Rattle.verdict.proofs.Order.{judged_on, judged_stop}
 use Rattle.machine.specs.Runs.{machine_of}
 use Rattle.tables.specs.Tables.{move_checks}
-use Rattle.tables.proofs.Gate.{size-told, small, reaches, moves-told}
+use Rattle.tables.proofs.Gate.{size_told, small, reaches, moves_told}
 use Rattle.tables.proofs.check_table.Statement.{statement}
 use Rattle.tables.proofs.check_table.Tie as tie
 
@@ -13,13 +13,13 @@ returns c = judged_stop (move_checks (machine_of c.before.before.before.before.a
 
 check-moves-requires : tie.Need-check-moves-requires
 check-moves-requires c κs =
-    let t = size-told (machine_of c.before.before.before.before.before.args.frame c.before.before.before.before.before.args.table.now) c.before.before.before.check-sizes.ensures c.before.if1.false in
+    let t = size_told (machine_of c.before.before.before.before.before.args.frame c.before.before.before.before.before.args.table.now) c.before.before.before.check-sizes.ensures c.before.if1.false in
     (small t.sized c.settings.ensures.0.0, reaches t c.settings.ensures.0.0)
 
 returns-2 : tie.Need-returns-2
 returns-2 c =
-    let t = size-told (machine_of c.before.before.before.before.before.before.args.frame c.before.before.before.before.before.before.args.table.now) c.before.before.before.before.check-sizes.ensures c.before.before.if1.false in
-    judged_on 3 c.before.before.before.before.check-sizes.ensures refl c.before.before.if1.false (moves-told t.sized c.before.settings.ensures.0.0 c.before.before.before.before.before.before.args.table.now c.check-moves.ensures)
+    let t = size_told (machine_of c.before.before.before.before.before.before.args.frame c.before.before.before.before.before.before.args.table.now) c.before.before.before.before.check-sizes.ensures c.before.before.if1.false in
+    judged_on 3 c.before.before.before.before.check-sizes.ensures refl c.before.before.if1.false (moves_told t.sized c.before.settings.ensures.0.0 c.before.before.before.before.before.before.args.table.now c.check-moves.ensures)
 
 pub check-table-spec : {M : Type 1} → statement M
 check-table-spec =

@@ -6,7 +6,7 @@ use mathlib.Core.Path.{sym, ◌∙◌}
 use mathlib.Core.Bool.{false≢true}
 use Rattle.verdict.proofs.Tests.{it_fails}
 use Rattle.machine.proofs.Sizes.{settings_are}
-use Rattle.tables.proofs.Gate.{couple-inside, couple-move}
+use Rattle.tables.proofs.Gate.{couple_inside, couple_move}
 use Rattle.tables.proofs.is_start.Statement.{statement}
 use Rattle.tables.proofs.is_start.Tie as tie
 
@@ -22,23 +22,23 @@ shl_wide c = let t = c.before.before.before.before.tabled.ensures.holds (not-fal
 add_wide : tie.Need-overflow-add-wide
 add_wide c =
     let t = c.before.before.before.before.tabled.ensures.holds (not-false _ c.before.before.before.if1.false) in
-    omega (arith, couple-inside t t.sized.begins (rw (settings_are t.sized c.before.before.settings.ensures.0.0) at c.before.if2.false))
+    omega (arith, couple_inside t t.sized.begins (rw (settings_are t.sized c.before.before.settings.ensures.0.0) at c.before.if2.false))
 
 shared-slice-read-wide : tie.Need-shared-slice-read-wide
 shared-slice-read-wide c =
     let t = c.before.before.before.before.before.tabled.ensures.holds (not-false _ c.before.before.before.before.if1.false) in
-    couple-inside t t.sized.begins (rw (settings_are t.sized c.before.before.before.settings.ensures.0.0) at c.before.before.if2.false)
+    couple_inside t t.sized.begins (rw (settings_are t.sized c.before.before.before.settings.ensures.0.0) at c.before.before.if2.false)
 
 returns-3 : tie.Need-returns-3
 returns-3 c =
     let t = c.before.before.before.before.before.before.before.tabled.ensures.holds (not-false _ c.before.before.before.before.before.before.if1.false) in
-    it_fails λ x. c.if3.true (c.before.wide.ensures.0 ∙ couple-move t t.sized.begins x.1.below ∙ x.1.rests)
+    it_fails λ x. c.if3.true (c.before.wide.ensures.0 ∙ couple_move t t.sized.begins x.1.below ∙ x.1.rests)
 
 returns-4 : tie.Need-returns-4
 returns-4 c =
     let t = c.before.before.before.before.before.before.before.before.tabled.ensures.holds (not-false _ c.before.before.before.before.before.before.before.if1.false) in
     let k = rw (settings_are t.sized c.before.before.before.before.before.before.settings.ensures.0.0) at c.before.before.before.before.before.if2.false in
-    let e = c.before.before.wide.ensures.0 ∙ couple-move t t.sized.begins k in
+    let e = c.before.before.wide.ensures.0 ∙ couple_move t t.sized.begins k in
     record {
       holds = λ u. (t, record { below = k; rests = sym e ∙ c.before.if3.false; allowed = sym c.startable.ensures ∙ u });
       fails = λ u x. false≢true (sym u ∙ c.startable.ensures ∙ x.1.allowed);

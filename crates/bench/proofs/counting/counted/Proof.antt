@@ -32,10 +32,10 @@ add-after : tie.Need-overflow-add-after invariant-loop decreases-loop
 add-after c = record { fits = omega (arith, c.before.before.loop.invariant.1.beyond c.before.before.loop.j (le_refl _), c.before.before.before.requires c.before.before.loop.j c.before.loop-test.true, (one c.differs-in.result).1) }
 
 loop-again : tie.Need-loop-preserved invariant-loop decreases-loop
-loop-again c = (search rules, filled_more c.before.before.loop.invariant.1 (omega (arith, c.before.loop-test.true, c.before.before.before.well-formed.0.1.0.1)) (ap₂ ◌+◌ (c.before.before.loop.invariant.1.beyond c.before.before.loop.j (le_refl _)) ((one c.differs-in.result).0 ∙ ap one_if c.differs-in.ensures)))
+loop-again c = (search rules, filled_more c.before.before.loop.invariant.1 (omega (arith, c.before.loop-test.true, c.before.before.before.well_formed.0.1.0.1)) (ap₂ ◌+◌ (c.before.before.loop.invariant.1.beyond c.before.before.loop.j (le_refl _)) ((one c.differs-in.result).0 ∙ ap one_if c.differs-in.ensures)))
 
 returns : tie.Need-returns invariant-loop decreases-loop
-returns c = list_is _ _ most_outputs (c.before.loop.invariant.1.same_length ∙ c.before.before.well-formed.0.1.0.1) (λ k h. c.before.loop.invariant.1.needed k (omega (arith, h, c.loop-test.false)))
+returns c = list_is _ _ most_outputs (c.before.loop.invariant.1.same_length ∙ c.before.before.well_formed.0.1.0.1) (λ k h. c.before.loop.invariant.1.needed k (omega (arith, h, c.loop-test.false)))
 
 pub counted_spec : {M : Type 1} → statement M
 counted_spec =

@@ -30,7 +30,7 @@ counted-requires c κs = λ j h. rw c.before.before.loop.invariant.1 (omega (ari
 loop-again : tie.Need-loop-preserved invariant-loop decreases-loop
 loop-again c =
     let es = c.before.before.before.before.args.t1 in let i = c.before.before.before.loop.i in let r = get_or es i blank in
-    let longer : take (i + 1) es ≡ take i es ++ r ∷ [] = rw add-one (take-suc es i blank (omega (arith, c.before.before.loop-test.true, c.before.before.before.before.requires, c.before.before.before.before.well-formed.0.1.0.1))) in (
+    let longer : take (i + 1) es ≡ take i es ++ r ∷ [] = rw add-one (take-suc es i blank (omega (arith, c.before.before.loop-test.true, c.before.before.before.before.requires, c.before.before.before.before.well_formed.0.1.0.1))) in (
       search rules,
       c.counted.ensures ∙ ap (λ (cs : List ℕ). list_to (λ j. get_or cs j 0 + one_if (differs_in j r)) most_outputs) c.before.before.before.loop.invariant.1
           ∙ counts_snoc (take i es) r ∙ sym (ap counts_of longer),

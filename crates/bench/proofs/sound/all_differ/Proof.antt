@@ -7,7 +7,7 @@ use Prim.Native.Nat.{ℕ, ◌-◌, ◌≤◌, ◌<◌}
 use lib.ListN.{get_or}
 use borrow.Author.Count.{below_none, below_more}
 use borrow.Author.Tests.{eq-eqb, ne_eqb}
-use Rattle.verdict.proofs.Below.{all_pass, one-fails}
+use Rattle.verdict.proofs.Below.{all_pass, one_fails}
 use Rattle.bench.specs.Readings.{differs}
 use Rattle.bench.specs.Log.{blank}
 use Rattle.bench.proofs.sound.all_differ.Statement.{statement}
@@ -23,7 +23,7 @@ loop-holds : tie.Need-loop-init invariant-loop decreases-loop
 loop-holds c = (search rules, below_none _)
 
 returns : tie.Need-returns invariant-loop decreases-loop
-returns c = one-fails c.before.before.before.before.before.args.kept _ c.before.before.before.before.loop.i c.before.before.before.loop-test.true (ap not (eq-eqb _ _ c.if1.true))
+returns c = one_fails c.before.before.before.before.before.args.kept _ c.before.before.before.before.loop.i c.before.before.before.loop-test.true (ap not (eq-eqb _ _ c.if1.true))
 
 loop-again : tie.Need-loop-preserved invariant-loop decreases-loop
 loop-again c = (search rules, below_more _ c.before.before.before.before.loop.i c.before.before.before.before.loop.invariant.1 (ap not (ne_eqb _ _ c.if1.false)))

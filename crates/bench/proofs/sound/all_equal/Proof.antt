@@ -9,7 +9,7 @@ use lib.ListN.{get_or}
 use borrow.Author.Count.{below_none, below_more}
 use borrow.Author.Tests.{eq-eqb, ne_eqb}
 use Rattle.basics.specs.Words.{most_outputs}
-use Rattle.verdict.proofs.Below.{all_pass, one-fails}
+use Rattle.verdict.proofs.Below.{all_pass, one_fails}
 use Rattle.bench.proofs.sound.all_equal.Statement.{statement}
 use Rattle.bench.proofs.sound.all_equal.Tie as tie
 
@@ -23,7 +23,7 @@ loop-holds : tie.Need-loop-init invariant-loop decreases-loop
 loop-holds c = (search rules, below_none _)
 
 returns : tie.Need-returns invariant-loop decreases-loop
-returns c = one-fails most_outputs _ c.before.before.loop.j c.before.loop-test.true (ne_eqb _ _ c.if1.true)
+returns c = one_fails most_outputs _ c.before.before.loop.j c.before.loop-test.true (ne_eqb _ _ c.if1.true)
 
 loop-again : tie.Need-loop-preserved invariant-loop decreases-loop
 loop-again c = (search rules, below_more _ c.before.before.loop.j c.before.before.loop.invariant.1 (eq-eqb _ _ c.if1.false))

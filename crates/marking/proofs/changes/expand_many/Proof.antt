@@ -1,6 +1,6 @@
 -- `expand_many` offers to what a multiple change to one of the first settings visits, where a run may make it.
-use Rattle.marking.proofs.Expanding.{settings-pos, setting_below, settings-few, targets, one_more, one-passed}
-use Rattle.marking.proofs.Pushing.{narrowed, pushed-as, pushed_none}
+use Rattle.marking.proofs.Expanding.{settings_pos, setting_below, settings_few, targets, one_more, one_passed}
+use Rattle.marking.proofs.Pushing.{narrowed, pushed_as, pushed_none}
 use Rattle.marking.specs.inner.Queue.{Pushed}
 use Rattle.marking.specs.inner.Engine.{ByKind, BySettings}
 use Rattle.machine.specs.Runs.{machine_by}
@@ -24,7 +24,7 @@ loop-holds : tie.Need-loop-init invariant-loop decreases-loop
 loop-holds c = (omega arith, pushed_none c.before.before.before.before.before.before.before.requires.room (λ d (j, l, b). omega arith), refl, refl)
 
 add-next : tie.Need-overflow-add-next invariant-loop decreases-loop
-add-next c = omega (arith, settings-few c.before.before.before.before.before.before.before.before.before.before.requires)
+add-next c = omega (arith, settings_few c.before.before.before.before.before.before.before.before.before.before.requires)
 
 many-change-requires : tie.Need-many-change-requires invariant-loop decreases-loop
 many-change-requires c κs = (c.before.before.before.before.before.before.before.before.before.before.requires.rows.settings_are, setting_below c.before.before.before.before.before.before.before.before.before.before.requires, omega arith)
@@ -41,7 +41,7 @@ loop-again c =
     let l = c.before.before.before.before.before.before.before.before.before.before.before.before.before.before.loop in
     let (k, free) = (c.before.before.before.before.before.before.before.before.before.before.before.many-change.ensures a.table.now).holds c.before.before.before.before.before.before.before.before.before.before.if2.true in (
       omega arith,
-      one_more (ByKind (machine_by a.sizes.several a.sizes.frame a.table.now) a.sizes.settings true a.couple) l.next c.before.before.before.before.before.before.before.before.before.before.before.before.before.before.before.before.before.before.before.before.before.before.requires.small l.invariant.1 (pushed-as (λ d b. (k, (free, b))) (λ d b. b.1.1) (rw (narrowed c.before.before.before.before.before.before.before.before.before.before.before.before.before.before.before.before.before.before.before.before.before.before.requires.room c.before.before.before.before.before.before.before.before.before.before.before.before.before.before.before.before.before.before.before.before.before.before.requires.below c.before.before.before.before.before.before.before.before.before.before.before.before.before.before.before.narrow.ensures) at c.before.before.before.before.before.before.change.ensures)),
+      one_more (ByKind (machine_by a.sizes.several a.sizes.frame a.table.now) a.sizes.settings true a.couple) l.next c.before.before.before.before.before.before.before.before.before.before.before.before.before.before.before.before.before.before.before.before.before.before.requires.small l.invariant.1 (pushed_as (λ d b. (k, (free, b))) (λ d b. b.1.1) (rw (narrowed c.before.before.before.before.before.before.before.before.before.before.before.before.before.before.before.before.before.before.before.before.before.before.requires.room c.before.before.before.before.before.before.before.before.before.before.before.before.before.before.before.before.before.before.before.before.before.before.requires.below c.before.before.before.before.before.before.before.before.before.before.before.before.before.before.before.narrow.ensures) at c.before.before.before.before.before.before.change.ensures)),
       omega arith,
       omega arith,
     )
@@ -51,7 +51,7 @@ loop-again-2 c =
     let a = c.before.before.before.before.before.before.before.before.before.before.before.before.args in
     let l = c.before.before.before.before.loop in (
       omega arith,
-      one-passed (ByKind (machine_by a.sizes.several a.sizes.frame a.table.now) a.sizes.settings true a.couple) l.next c.before.before.before.before.before.before.before.before.before.before.before.before.requires.small l.invariant.1 (λ d (k, b). (c.before.many-change.ensures a.table.now).fails c.if2.false (k, b.0)),
+      one_passed (ByKind (machine_by a.sizes.several a.sizes.frame a.table.now) a.sizes.settings true a.couple) l.next c.before.before.before.before.before.before.before.before.before.before.before.before.requires.small l.invariant.1 (λ d (k, b). (c.before.many-change.ensures a.table.now).fails c.if2.false (k, b.0)),
       l.invariant.2,
       l.invariant.3,
     )
@@ -65,8 +65,8 @@ expand-many-spec =
     (tie.spec
     invariant-loop
     decreases-loop
-    (λ c. search (settings-pos, rules))
-    (λ c. search (settings-pos, rules))
+    (λ c. search (settings_pos, rules))
+    (λ c. search (settings_pos, rules))
     (λ c κs. search rules)
     loop-holds
     add-next

@@ -1,6 +1,6 @@
 -- `spread` goes on over each couple that its changes bring to the round's weight, and stops at another or at the end.
 use Rattle.machine.specs.Runs.{machine_by}
-use Rattle.marking.proofs.Heads.{going-none, head_in, head-light, head-expands, going_more, going-stop, going_end}
+use Rattle.marking.proofs.Heads.{going_none, head_in, head_light, head_expands, going_more, going_stop, going_end}
 use Rattle.marking.specs.inner.Engine.{Going}
 use borrow.Author.Tests.{not-true, not-false}
 use borrow.Author.Rules.{rules}
@@ -19,7 +19,7 @@ abbrev decreases-loop : tie.decreases-loop
 decreases-loop table weights₀ parents₀ queue₀ from to end sizes round tail₀ head₀ weights parents queue tail head = to - head
 
 loop-holds : tie.Need-loop-init invariant-loop decreases-loop
-loop-holds c = (going-none (machine_by c.before.before.before.before.args.sizes.several c.before.before.before.before.args.sizes.frame c.before.before.before.before.args.table.now) c.before.before.before.before.requires c.before.before.before.before.args.round.many, refl, refl)
+loop-holds c = (going_none (machine_by c.before.before.before.before.args.sizes.several c.before.before.before.before.args.sizes.frame c.before.before.before.before.args.table.now) c.before.before.before.before.requires c.before.before.before.before.args.round.many, refl, refl)
 
 mul-long : tie.Need-overflow-mul-long invariant-loop decreases-loop
 mul-long c = omega (arith, head_in (machine_by c.before.before.before.before.before.before.args.sizes.several c.before.before.before.before.before.before.args.sizes.frame c.before.before.before.before.before.before.args.table.now) c.before.before.before.before.before.before.requires c.before.before.before.before.before.before.args.round.many c.before.loop.invariant.0 c.loop-test.true)
@@ -34,13 +34,13 @@ slice-read-due : tie.Need-slice-read-due invariant-loop decreases-loop
 slice-read-due c = omega (arith, c.before.long.ensures.0, head_in (machine_by c.before.before.before.before.before.before.before.before.before.args.sizes.several c.before.before.before.before.before.before.before.before.before.args.sizes.frame c.before.before.before.before.before.before.before.before.before.args.table.now) c.before.before.before.before.before.before.before.before.before.requires c.before.before.before.before.before.before.before.before.before.args.round.many c.before.before.before.before.loop.invariant.0 c.before.before.before.loop-test.true)
 
 due-requires : tie.Need-due-requires invariant-loop decreases-loop
-due-requires c κs = rw c.before.long.ensures.0 (head-light (machine_by c.before.before.before.before.before.before.before.before.before.args.sizes.several c.before.before.before.before.before.before.before.before.before.args.sizes.frame c.before.before.before.before.before.before.before.before.before.args.table.now) c.before.before.before.before.before.before.before.before.before.requires c.before.before.before.before.before.before.before.before.before.args.round.many c.before.before.before.before.loop.invariant.0 c.before.before.before.loop-test.true)
+due-requires c κs = rw c.before.long.ensures.0 (head_light (machine_by c.before.before.before.before.before.before.before.before.before.args.sizes.several c.before.before.before.before.before.before.before.before.before.args.sizes.frame c.before.before.before.before.before.before.before.before.before.args.table.now) c.before.before.before.before.before.before.before.before.before.requires c.before.before.before.before.before.before.before.before.before.args.round.many c.before.before.before.before.loop.invariant.0 c.before.before.before.loop-test.true)
 
 returns : tie.Need-returns invariant-loop decreases-loop
-returns c = going-stop (machine_by c.before.before.before.before.before.before.before.before.before.before.before.args.sizes.several c.before.before.before.before.before.before.before.before.before.before.before.args.sizes.frame c.before.before.before.before.before.before.before.before.before.before.before.args.table.now) c.before.before.before.before.before.before.before.before.before.before.before.requires c.before.before.before.before.before.before.before.before.before.before.before.args.round.many c.before.before.before.before.before.before.loop.invariant.0 c.before.before.before.before.before.loop-test.true (rw c.before.before.before.long.ensures.0 at (c.before.due.ensures.fails (not-true _ c.if1.true)))
+returns c = going_stop (machine_by c.before.before.before.before.before.before.before.before.before.before.before.args.sizes.several c.before.before.before.before.before.before.before.before.before.before.before.args.sizes.frame c.before.before.before.before.before.before.before.before.before.before.before.args.table.now) c.before.before.before.before.before.before.before.before.before.before.before.requires c.before.before.before.before.before.before.before.before.before.before.before.args.round.many c.before.before.before.before.before.before.loop.invariant.0 c.before.before.before.before.before.loop-test.true (rw c.before.before.before.long.ensures.0 at (c.before.due.ensures.fails (not-true _ c.if1.true)))
 
 take-requires : tie.Need-take-requires invariant-loop decreases-loop
-take-requires c κs = rw c.before.before.before.before.before.before.long.ensures.0 (head-expands (machine_by c.before.before.before.before.before.before.before.before.before.before.before.before.before.before.args.sizes.several c.before.before.before.before.before.before.before.before.before.before.before.before.before.before.args.sizes.frame c.before.before.before.before.before.before.before.before.before.before.before.before.before.before.args.table.now) c.before.before.before.before.before.before.before.before.before.before.before.before.before.before.requires c.before.before.before.before.before.before.before.before.before.before.before.before.before.before.args.round.many c.before.before.before.before.before.before.before.before.before.loop.invariant.0 c.before.before.before.before.before.before.before.before.loop-test.true)
+take-requires c κs = rw c.before.before.before.before.before.before.long.ensures.0 (head_expands (machine_by c.before.before.before.before.before.before.before.before.before.before.before.before.before.before.args.sizes.several c.before.before.before.before.before.before.before.before.before.before.before.before.before.before.args.sizes.frame c.before.before.before.before.before.before.before.before.before.before.before.before.before.before.args.table.now) c.before.before.before.before.before.before.before.before.before.before.before.before.before.before.requires c.before.before.before.before.before.before.before.before.before.before.before.before.before.before.args.round.many c.before.before.before.before.before.before.before.before.before.loop.invariant.0 c.before.before.before.before.before.before.before.before.loop-test.true)
 
 add-head : tie.Need-overflow-add-head invariant-loop decreases-loop
 add-head c = omega (arith, head_in (machine_by c.before.before.before.before.before.before.before.before.before.before.before.before.before.before.before.before.before.before.before.before.before.args.sizes.several c.before.before.before.before.before.before.before.before.before.before.before.before.before.before.before.before.before.before.before.before.before.args.sizes.frame c.before.before.before.before.before.before.before.before.before.before.before.before.before.before.before.before.before.before.before.before.before.args.table.now) c.before.before.before.before.before.before.before.before.before.before.before.before.before.before.before.before.before.before.before.before.before.requires c.before.before.before.before.before.before.before.before.before.before.before.before.before.before.before.before.before.before.before.before.before.args.round.many c.before.before.before.before.before.before.before.before.before.before.before.before.before.before.before.before.loop.invariant.0 c.before.before.before.before.before.before.before.before.before.before.before.before.before.before.before.loop-test.true)

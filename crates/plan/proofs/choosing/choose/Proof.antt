@@ -27,7 +27,7 @@ choose-one-requires c κs =
     (record { total = c.before.before.before.before.before.before.before.before.before.args.couples; room = rw l.invariant.1 p.0; below = c.before.before.loop-test.true }, omega (arith, l.invariant.2, p.1))
 
 add-bytes : tie.Need-overflow-add-bytes invariant-loop decreases-loop
-add-bytes c = omega (arith, c.before.before.before.before.before.before.before.before.loop.invariant.3.bytes-few, c.before.before.before.before.choose_one.ensures.bytes-few, c.before.before.before.before.before.before.before.before.before.before.before.before.before.before.requires.1)
+add-bytes c = omega (arith, c.before.before.before.before.before.before.before.before.loop.invariant.3.bytes_few, c.before.before.before.before.choose_one.ensures.bytes_few, c.before.before.before.before.before.before.before.before.before.before.before.before.before.before.requires.1)
 
 loop-again : tie.Need-loop-preserved invariant-loop decreases-loop
 loop-again c =

@@ -3,24 +3,24 @@ use mathlib.Core.Path.{refl, sym, ◌∙◌}
 use native.Mathlib.Omega.{arith}
 use borrow.Author.Rules.{rules}
 use borrow.Author.Tests.{not-true, not-false}
-use Rattle.plan.proofs.Turns.{turn-not, turn-visited, turn-taken}
+use Rattle.plan.proofs.Turns.{turn_not, turn_visited, turn_taken}
 use Rattle.plan.proofs.choosing.choose_one.Statement.{statement}
 use Rattle.plan.proofs.choosing.choose_one.Tie as tie
 
 returns : tie.Need-returns
 returns c =
     let a = c.before.before.before.before.before.before.before.before.args in
-    turn-not a.several a.table.now a.parents.now a.weights.now a.size a.c a.visited.now a.chosen.now (sym c.before.looks-at.ensures ∙ not-true _ c.if1.true)
+    turn_not a.several a.table.now a.parents.now a.weights.now a.size a.c a.visited.now a.chosen.now (sym c.before.looks-at.ensures ∙ not-true _ c.if1.true)
 
 returns-2 : tie.Need-returns-2
 returns-2 c =
     let a = c.before.before.before.before.before.before.before.before.before.before.args in
-    turn-visited a.several a.table.now a.parents.now a.weights.now a.size a.c a.visited.now a.chosen.now c.if2.true
+    turn_visited a.several a.table.now a.parents.now a.weights.now a.size a.c a.visited.now a.chosen.now c.if2.true
 
 returns-3 : tie.Need-returns-3
 returns-3 c =
     let a = c.before.before.before.before.before.before.before.before.before.before.before.before.before.before.before.before.args in
-    turn-taken
+    turn_taken
     a.several a.table.now a.parents.now a.weights.now a.size a.c a.visited.now a.chosen.now
     c.before.before.before.before.before.large.result
     5
@@ -35,7 +35,7 @@ returns-3 c =
 returns-4 : tie.Need-returns-4
 returns-4 c =
     let a = c.before.before.before.before.before.before.before.before.before.before.before.before.before.before.before.before.args in
-    turn-taken
+    turn_taken
     a.several a.table.now a.parents.now a.weights.now a.size a.c a.visited.now a.chosen.now
     c.before.before.before.before.before.large.result
     3

@@ -4,7 +4,7 @@ use Prim.Native.Nat.{◌-◌}
 use native.Mathlib.Omega.{arith}
 use lib.ListN.{length, length-set}
 use Rattle.plan.specs.inner.Choosing.{RoomFor, noted_run}
-use Rattle.plan.proofs.Turns.{noted_back, parent-room, change-room}
+use Rattle.plan.proofs.Turns.{noted_back, parent_room, change_room}
 use native.Mathlib.Nat.{mod-lt}
 use Rattle.plan.proofs.choosing.note_run.Statement.{statement}
 use Rattle.plan.proofs.choosing.note_run.Tie as tie
@@ -30,13 +30,13 @@ rem-note-change c = c.before.before.before.loop.invariant.0.room.tree.some
 note-change-requires : tie.Need-note-change-requires invariant-loop decreases-loop
 note-change-requires c κs =
     let l = c.before.before.before.before.loop in
-    rw (c.before.long.ensures.0, l.invariant.1) (change-room (parent-room l.invariant.0) _ (mod-lt l.c l.invariant.0.room.tree.some))
+    rw (c.before.long.ensures.0, l.invariant.1) (change_room (parent_room l.invariant.0) _ (mod-lt l.c l.invariant.0.room.tree.some))
 
 loop-again : tie.Need-loop-preserved invariant-loop decreases-loop
 loop-again c =
     let l = c.before.before.before.before.before.before.before.loop in
     let a = c.before.before.before.before.before.before.before.before.before.before.before.args in (
-      rw c.before.before.before.before.long.ensures.0 (parent-room l.invariant.0),
+      rw c.before.before.before.before.long.ensures.0 (parent_room l.invariant.0),
       omega arith,
       rw (c.before.before.note-change.ensures, c.before.before.before.before.long.ensures.0) (noted_back a.table.now a.parents.now a.size l.c (l.left - 1) l.left l.visited (omega arith) ∙ l.invariant.2),
     )

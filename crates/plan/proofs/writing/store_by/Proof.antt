@@ -4,7 +4,7 @@ use Prim.Native.Nat.{◌+◌}
 use native.Mathlib.Omega.{arith}
 use borrow.Author.Rules.{rules}
 use Rattle.plan.proofs.Fronts.{length_rest, put_more}
-use Rattle.plan.proofs.Chains.{length-stored, length_when, list_stores, plan_stores}
+use Rattle.plan.proofs.Chains.{length_stored, length_when, list_stores, plan_stores}
 use Rattle.plan.proofs.writing.store_by.Statement.{statement}
 use Rattle.plan.proofs.writing.store_by.Tie as tie
 
@@ -29,7 +29,7 @@ store-run-requires c κs =
 add-result : tie.Need-overflow-add-result
 add-result c =
     let a = c.before.before.before.before.before.before.before.before.before.before.before.before.before.args in
-    omega (arith, c.before.before.store-run.ensures.count, length-stored a.parents.now a.size a.couple c.before.before.before.before.before.before.before.before.before.before.large.result, c.before.before.before.before.before.before.before.before.before.before.large.ensures.1)
+    omega (arith, c.before.before.store-run.ensures.count, length_stored a.parents.now a.size a.couple c.before.before.before.before.before.before.before.before.before.before.large.result, c.before.before.before.before.before.before.before.before.before.before.large.ensures.1)
 
 returns : tie.Need-returns
 returns c =

@@ -5,7 +5,7 @@ use native.Mathlib.Omega.{arith}
 use lib.ListN.{length}
 use Rattle.plan.specs.inner.Writing.{piece, pieces, Put}
 use Rattle.plan.proofs.Fronts.{length_rest, put_front, put_none, put_reach, put_more}
-use Rattle.plan.proofs.Chains.{pieces-fit, pieces_more, pieces_none}
+use Rattle.plan.proofs.Chains.{pieces_fit, pieces_more, pieces_none}
 use Rattle.plan.proofs.writing.write_plan.Statement.{statement}
 use Rattle.plan.proofs.writing.write_plan.Tie as tie
 
@@ -29,7 +29,7 @@ store-chosen-requires c κs =
     let p = c.before.before.before.before.before.before.before.requires in
     let l = c.before.before.loop in
     let h = c.before.loop-test.true in
-    let fit = pieces-fit a.several a.parents.now a.weights.now a.size a.chosen.now a.couples l.c h in (
+    let fit = pieces_fit a.several a.parents.now a.weights.now a.size a.chosen.now a.couples l.c h in (
       record { total = a.couples; tree = p.0; below = h },
       (
         omega (arith, p.1.0.weights_long, p.1.0.flags_long),
@@ -41,7 +41,7 @@ add_at : tie.Need-overflow-add-at invariant-loop decreases-loop
 add_at c =
     let a = c.before.before.before.before.before.before.before.before.before.before.args in
     let l = c.before.before.before.before.before.loop in
-    let fit = pieces-fit a.several a.parents.now a.weights.now a.size a.chosen.now a.couples l.c c.before.before.before.before.loop-test.true in
+    let fit = pieces_fit a.several a.parents.now a.weights.now a.size a.chosen.now a.couples l.c c.before.before.before.before.loop-test.true in
     omega (arith, fit, l.invariant.2.count, c.before.before.store-chosen.ensures.count, c.before.before.before.before.before.before.before.before.before.before.requires.1.1)
 
 loop-again : tie.Need-loop-preserved invariant-loop decreases-loop

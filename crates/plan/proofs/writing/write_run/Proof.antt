@@ -7,7 +7,7 @@ use native.Mathlib.Omega.{arith}
 use lib.ListN.{length, drop, length-set}
 use borrow.Author.Rules.{rules}
 use Rattle.plan.specs.inner.Writing.{settings, InTree}
-use Rattle.plan.proofs.Chains.{settings-none, settings-back, length-settings, parent_in_tree, setting_small}
+use Rattle.plan.proofs.Chains.{settings_none, settings_back, length_settings, parent_in_tree, setting_small}
 use Rattle.plan.proofs.writing.write_run.Statement.{statement}
 use Rattle.plan.proofs.writing.write_run.Tie as tie
 
@@ -37,7 +37,7 @@ loop-again c =
       omega arith,
       rw c.long.ensures.0 w,
       simp length-set l.invariant.2,
-      rw (c.long.ensures.0, c.before.before.byte.ensures ∙ mod-eq_of_lt (setting_small l.invariant.1 l.c)) (settings-back a.parents.now a.size l.c (l.left - 1) l.left l.run (omega arith) (omega arith) ∙ l.invariant.3),
+      rw (c.long.ensures.0, c.before.before.byte.ensures ∙ mod-eq_of_lt (setting_small l.invariant.1 l.c)) (settings_back a.parents.now a.size l.c (l.left - 1) l.left l.run (omega arith) (omega arith) ∙ l.invariant.3),
     )
 
 returns : tie.Need-returns invariant-loop decreases-loop
@@ -45,8 +45,8 @@ returns c =
     let a = c.before.before.before.before.args in
     let e : c.before.loop.left ≡ 0 = omega arith in
     record {
-      count = sym (length-settings a.parents.now a.size (a.changes + 1) a.couple);
-      is = rw (e, settings-none) at c.before.loop.invariant.3;
+      count = sym (length_settings a.parents.now a.size (a.changes + 1) a.couple);
+      is = rw (e, settings_none) at c.before.loop.invariant.3;
     }
 
 pub write-run-spec : {M : Type 1} → statement M

@@ -4,7 +4,7 @@ use native.Mathlib.Omega.{arith}
 use Prim.Native.Nat.{◌-◌}
 use lib.ListN.{length}
 use Rattle.machine.specs.Runs.{machine_of}
-use Rattle.runs.proofs.Broken.{Past, past_start, past_more, past-found, past_end}
+use Rattle.runs.proofs.Broken.{Past, past_start, past_more, past_found, past_end}
 use Rattle.runs.proofs.stored.first_broken.Statement.{statement}
 use Rattle.runs.proofs.stored.first_broken.Tie as tie
 
@@ -15,7 +15,7 @@ abbrev decreases-loop : tie.decreases-loop
 decreases-loop frame table plan at₀ at = length plan - at
 
 returns : tie.Need-returns invariant-loop decreases-loop
-returns c = past-found c.before.before.before.before.loop.invariant c.before.before.next_start.ensures c.enum_told.given.1
+returns c = past_found c.before.before.before.before.loop.invariant c.before.before.next_start.ensures c.enum_told.given.1
 
 loop-less : tie.Need-loop-smaller invariant-loop decreases-loop
 loop-less c = omega (arith, (past_more c.before.before.before.before.before.loop.invariant c.before.before.before.next_start.ensures c.before.end.given.1).0)

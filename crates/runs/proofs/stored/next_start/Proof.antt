@@ -4,12 +4,12 @@ use native.Mathlib.Omega.{arith}
 use Rattle.verdict.proofs.Tests.{at_least, found_none}
 use Rattle.runs.specs.inner.Splits.{Whole}
 use Rattle.runs.proofs.Front.{counted_whole, counted_cut}
-use Rattle.runs.proofs.Broken.{next-none, next-fault, next_run}
+use Rattle.runs.proofs.Broken.{next_none, next_fault, next_run}
 use Rattle.runs.proofs.stored.next_start.Statement.{statement}
 use Rattle.runs.proofs.stored.next_start.Tie as tie
 
 returns : tie.Need-returns
-returns c = next-none _ c.before.before.before.before.before.requires.1 (counted_cut c.before.before.whole-end.ensures c.enum_told.given.1)
+returns c = next_none _ c.before.before.before.before.before.requires.1 (counted_cut c.before.before.whole-end.ensures c.enum_told.given.1)
 
 ends : (c : tie.After-end) → let a = c.before.before.before.before.before.args in Whole a.plan.now a.at c.end.given.0.0
 ends c = counted_whole c.before.before.whole-end.ensures c.end.given.1
@@ -24,7 +24,7 @@ part-first-fault-end : tie.Need-slice-bounds-first-fault-end
 part-first-fault-end c = let w = ends c.before in omega (arith, w.within)
 
 returns-2 : tie.Need-returns-2
-returns-2 c = next-fault _ (ends c.before.before.before.before.before) (at_least c.before.before.first-fault.ensures c.enum-told3.given.1).here
+returns-2 c = next_fault _ (ends c.before.before.before.before.before) (at_least c.before.before.first-fault.ensures c.enum-told3.given.1).here
 
 returns-3 : tie.Need-returns-3
 returns-3 c = next_run _ (ends c.before.before.before.before.before) (found_none c.before.before.first-fault.ensures c.enum-told2.given.1).nowhere

@@ -9,7 +9,7 @@ use Rattle.verdict.proofs.Fills.{filled_none, filled_more}
 use Rattle.specification.specs.File.{length_of, start_of}
 use Rattle.specification.specs.inner.Private.{most_kinds}
 use Rattle.specification.proofs.Laws.{start_first, start_more}
-use Rattle.specification.proofs.Entries.{count-few}
+use Rattle.specification.proofs.Entries.{count_few}
 use Rattle.specification.proofs.file.bodies_of.Statement.{statement}
 use Rattle.specification.proofs.file.bodies_of.Tie as tie
 
@@ -21,12 +21,12 @@ abbrev decreases-loop : tie.decreases-loop
 decreases-loop file count at₀ length₀ start₀ k₀ at length start k = count - k
 
 loop-holds : tie.Need-loop-init invariant-loop decreases-loop
-loop-holds c = (search rules, omega (arith, count-few c.before.before.before.requires.1), omega (arith, start_first c.before.before.before.args.file.now), omega arith, filled_none _, filled_none _)
+loop-holds c = (search rules, omega (arith, count_few c.before.before.before.requires.1), omega (arith, start_first c.before.before.before.args.file.now), omega arith, filled_none _, filled_none _)
 
 loop-again : tie.Need-loop-preserved invariant-loop decreases-loop
 loop-again c =
     let n = length-replicate {A = ℕ} most_kinds 0 in
-    (search rules, search rules, omega (arith, start_more c.before.before.before.before.before.before.args.file.now c.before.before.loop.k), omega arith, filled_more c.before.before.loop.invariant.4 (omega (arith, n)) c.before.before.loop.invariant.2, filled_more c.before.before.loop.invariant.5 (omega (arith, n)) c.length-of.ensures.0)
+    (search rules, search rules, omega (arith, start_more c.before.before.before.before.before.before.args.file.now c.before.before.loop.k), omega arith, filled_more c.before.before.loop.invariant.4 (omega (arith, n)) c.before.before.loop.invariant.2, filled_more c.before.before.loop.invariant.5 (omega (arith, n)) c.length_of.ensures.0)
 
 returns : tie.Need-returns invariant-loop decreases-loop
 returns c =

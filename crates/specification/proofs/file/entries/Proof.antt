@@ -13,7 +13,7 @@ use Rattle.machine.proofs.Order.{below_or}
 use Rattle.specification.specs.File.{count_of, offset_of, start_of, kinds}
 use Rattle.specification.specs.inner.Private.{KindFits}
 use Rattle.specification.proofs.Laws.{start_first, start_more}
-use Rattle.specification.proofs.Entries.{kind-fit}
+use Rattle.specification.proofs.Entries.{kind_fit}
 use Rattle.specification.proofs.file.entries.Statement.{statement}
 use Rattle.specification.proofs.file.entries.Tie as tie
 
@@ -27,7 +27,7 @@ loop-holds : tie.Need-loop-init invariant-loop decreases-loop
 loop-holds c = (search rules, omega (arith, start_first c.before.before.before.args.file.now), omega arith, λ j h. absurd (omega arith))
 
 returns : tie.Need-returns invariant-loop decreases-loop
-returns c = it_fails λ e. c.before.kind-fits.ensures.fails (not-true _ c.if1.true) (kind-fit e c.before.before.before.loop.k (search rules))
+returns c = it_fails λ e. c.before.kind-fits.ensures.fails (not-true _ c.if1.true) (kind_fit e c.before.before.before.loop.k (search rules))
 
 returns-2 : tie.Need-returns-2 invariant-loop decreases-loop
 returns-2 c = it_fails λ e. omega (arith, e.offset c.before.before.before.before.before.loop.k (search rules))

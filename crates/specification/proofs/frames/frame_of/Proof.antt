@@ -4,9 +4,9 @@ use native.Mathlib.Omega.{arith}
 use mathlib.Core.Path.{◌≡◌, refl}
 use lib.Pow.{pow_pos}
 use Rattle.sets.specs.Sets.{words, SetOf}
-use Rattle.sets.proofs.Arrays.{set-none, set-in, set-wide}
+use Rattle.sets.proofs.Arrays.{set_none, set_in, set_wide}
 use Rattle.specification.specs.Records.{settings}
-use Rattle.specification.proofs.Optional.{never-set, starts-set}
+use Rattle.specification.proofs.Optional.{never_set, starts_set}
 use Rattle.specification.proofs.frames.frame_of.Statement.{statement}
 use Rattle.specification.proofs.frames.frame_of.Tie as tie
 
@@ -14,8 +14,8 @@ returns : tie.Need-returns
 returns c =
     let z = c.before.before.before.before.args.z in
     let first : SetOf words (settings z) (λ v. v ≡ 0) c.before.with.result =
-    set-wide (set-in (set-none words 0 (λ v l. absurd (omega arith))) (omega arith) refl c.before.with.ensures.0 c.before.with.ensures.1) (settings z) (pow_pos z.inputs) (λ v l _ e. omega arith) in
-    record { inputs = refl; states = refl; initial = refl; never = never-set c.before.before.set-in.ensures; starts = starts-set first c.set-in2.ensures }
+    set_wide (set_in (set_none words 0 (λ v l. absurd (omega arith))) (omega arith) refl c.before.with.ensures.0 c.before.with.ensures.1) (settings z) (pow_pos z.inputs) (λ v l _ e. omega arith) in
+    record { inputs = refl; states = refl; initial = refl; never = never_set c.before.before.set_in.ensures; starts = starts_set first c.set-in2.ensures }
 
 pub frame-of-spec : {M : Type 1} → statement M
 frame-of-spec = tie.close (tie.spec (λ c κs. search rules) (λ c κs. search rules) (λ c κs. search rules) returns)

@@ -4,7 +4,7 @@ use native.Mathlib.Omega.{arith}
 use mathlib.Core.Path.{refl}
 use Rattle.verdict.proofs.Tests.{at_least, found_none}
 use Rattle.specification.specs.inner.Private.{there, without}
-use Rattle.specification.proofs.Optional.{offset-within, body_at, kind-set}
+use Rattle.specification.proofs.Optional.{offset_within, body_at, kind_set}
 use Rattle.specification.proofs.frames.set_in.Statement.{statement}
 use Rattle.specification.proofs.frames.set_in.Tie as tie
 
@@ -18,16 +18,16 @@ length-of-requires : tie.Need-length-of-requires
 length-of-requires c κs = ((at_least c.before.before.before.before.entry_of.ensures c.before.before.k.given.1).here.there, c.before.before.before.before.before.before.pre.formed.headed.enough)
 
 add-set-of : tie.Need-add-set-of
-add-set-of c = omega (arith, offset-within c.before.before.before.before.before.before.before.pre.formed.entries (at_least c.before.before.before.before.before.entry_of.ensures c.before.before.before.k.given.1).here.there c.before.offset-of.ensures c.length-of.ensures.0, c.before.before.before.before.before.before.before.pre.few)
+add-set-of c = omega (arith, offset_within c.before.before.before.before.before.before.before.pre.formed.entries (at_least c.before.before.before.before.before.entry_of.ensures c.before.before.before.k.given.1).here.there c.before.offset-of.ensures c.length_of.ensures.0, c.before.before.before.before.before.before.before.pre.few)
 
 part-set-of-end : tie.Need-part-set-of-end
-part-set-of-end c = offset-within c.before.before.before.before.before.before.before.pre.formed.entries (at_least c.before.before.before.before.before.entry_of.ensures c.before.before.before.k.given.1).here.there c.before.offset-of.ensures c.length-of.ensures.0
+part-set-of-end c = offset_within c.before.before.before.before.before.before.before.pre.formed.entries (at_least c.before.before.before.before.before.entry_of.ensures c.before.before.before.k.given.1).here.there c.before.offset-of.ensures c.length_of.ensures.0
 
 returns-2 : tie.Need-returns-2
 returns-2 c =
     let p = c.before.before.before.before.before.before.before.before.before.pre in
     let o = (at_least c.before.before.before.before.before.before.before.entry_of.ensures c.before.before.before.before.before.k.given.1).here in
-    there (_, o) (kind-set p.formed.entries o (body_at p.formed.entries o.there c.before.before.before.offset-of.ensures c.before.before.length-of.ensures.0) (c.set-of.ensures.0 p.ranges.few_inputs))
+    there (_, o) (kind_set p.formed.entries o (body_at p.formed.entries o.there c.before.before.before.offset-of.ensures c.before.before.length_of.ensures.0) (c.set-of.ensures.0 p.ranges.few_inputs))
 
 pub set-in-spec : {M : Type 1} → statement M
 set-in-spec =

@@ -16,7 +16,7 @@ use Rattle.specification.specs.declared.handing.Next.{Next}
 use Rattle.specification.specs.Limits.{most_bytes}
 use Rattle.evolutions.specs.Evolutions.{blank}
 use Rattle.specification.specs.inner.Filling.{place_of, Fillable, filled_of, next_of}
-use Rattle.specification.proofs.Filling.{place-le, filled, filled-length, filled_more}
+use Rattle.specification.proofs.Filling.{place_le, filled, filled_length, filled_more}
 use Rattle.evolutions.proofs.Rows.{R, vals, place_fits}
 use Rattle.walks.proofs.Finish.{finish}
 use Rattle.evolutions.specs.contracts.Evolution as T
@@ -110,7 +110,7 @@ module _ {M : Type 1} {𝓤 : Ura M} (𝓛 : Logic 𝓤) (mem : Memory → SProp
 
   exits : Room R n → count ≤ n → Are Plain (Ises Plain) (start, (text, (count, (good, tt)))) plainv
       → ent 𝓤 (⋆ 𝓛 (‵ (fobs γ ((coded_holeys R).code (heres R (L count)))) ∷ ‵ (fbor κ (Held R (length (L count)) b o γ)) ∷ ‵ (flft κ q) ∷ ‵ (flft κ' q') ∷ ‵ File ∷ [])) (Post vunit)
-  exits room le are = let e = filled-length fs start text good ys count le in
+  exits room le are = let e = filled_length fs start text good ys count le in
       qed 𝓛 (‵ (fobs γ ((coded_holeys R).code (heres R (L count)))) ∷ ‵ (fbor κ (Held R (length (L count)) b o γ)) ∷ ‵ (flft κ q) ∷ ‵ (flft κ' q') ∷ ‵ File ∷ []) ∵
       suffices ! _ (ends_at 𝓛 f.ended stayed (f.clauses 𝓛 mem run) (((κ, (κ', tt)), (q, (q', tt)), tt, a, at), tt) vunit tt (L count, (tt, (tt, (tt, (tt, (tt, tt)))))) (e, (tt, (tt, (tt, (tt, (tt, tt))))))) $ says ! refl $
       nothing ! $ move ! (4 ∷ 0 ∷ []) $ join ! $ move ! (3 ∷ 0 ∷ []) $ join ! $ frame ! $
@@ -160,7 +160,7 @@ module _ {M : Type 1} {𝓤 : Ura M} (𝓛 : Logic 𝓤) (mem : Memory → SProp
     fillable i l = asked.1 (omega arith)
 
     place-below : (i : ℕ) → i < count → at_place i ≤ most_bytes
-    place-below i l = omega (arith, (fillable i l).texts, place-le fs start text i count (omega arith))
+    place-below i l = omega (arith, (fillable i l).texts, place_le fs start text i count (omega arith))
 
     asks-one : (i : ℕ) → i < count → (start + 3 * i + 2 < length fs) × (length fs ≤ most_bytes) × (at_place i ≤ most_bytes)
     asks-one i l = (omega (arith, (fillable i l).entries), (fillable i l).few, place-below i l)
@@ -172,7 +172,7 @@ module _ {M : Type 1} {𝓤 : Ura M} (𝓛 : Logic 𝓤) (mem : Memory → SProp
     next_fits i l = omega (arith, are.1.1.0.1)
 
     in_list : (i : ℕ) → i < n → i < length (L i)
-    in_list i l = omega (arith, filled-length fs start text good ys i (omega arith))
+    in_list i l = omega (arith, filled_length fs start text good ys i (omega arith))
 
     module _ (l₀ l₁ l₂ l₃ l₄ l₅ l₆ l₇ l₈ l₉ lA lB lC : ℕ) where
       abbrev E : Env 𝓤 H
@@ -232,7 +232,7 @@ module _ {M : Type 1} {𝓤 : Ura M} (𝓛 : Logic 𝓤) (mem : Memory → SProp
           assigns ! (bin ! (load ! (from ! (stop !)) (look ! 14 refl)) (load ! (from ! (stop !)) (look ! 20 refl)) tt) (from ! (stop !)) (init ! 10 refl (tt, tt)) $
           rewrite ! 10 (λ (z : Bool). ‵ (fat full_share ty_bool lA 0 (vbool z))) t refl $ leaves_loop ! (load ! (from ! (stop !)) (look ! 10 refl)) $ exec ! C Λ E mir.t-4 (at_ret E Post) $
           rewrite ! 0 (λ (m : ℕ). ‵ (row R full_share (L m) b o)) last refl $
-          closes_slice ! tt R ys (L count) (filled-length fs start text good ys count asked.0) b o $
+          closes_slice ! tt R ys (L count) (filled_length fs start text good ys count asked.0) b o $
           -- [obs; the borrow; the token; the file's token; the file; _11; …]
           assigns ! (of_opd ! (unit_lit !)) (from ! (stop !)) (init ! 29 refl (tt, tt)) $
           returns ! (look ! 29 refl) $ forget ! 9 refl $ forget ! 13 refl $ forget ! 15 refl $ forget ! 17 refl $ forget ! 19 refl $ forget ! 21 refl $ forget ! 23 refl $ forget ! 25 refl $ forget ! 27 refl $ forget ! 29 refl $

@@ -7,21 +7,21 @@ use Prim.Native.Nat.{ℕ, ◌≤◌}
 use lib.ListN.{length}
 use Rattle.verdict.specs.Checks.{check, Short, Passed, Judged}
 use Rattle.verdict.specs.declared.Answer.{Answer}
-use Rattle.verdict.proofs.Order.{judged_rest, judged-or, judged_number, pass, halt, long}
+use Rattle.verdict.proofs.Order.{judged_rest, judged_or, judged_number, pass, halt, long}
 use Rattle.machine.specs.Runs.{Machine}
 use Rattle.tables.specs.Tables.{Tabled, size_checks, move_checks, state_checks, sound_checks}
-use Rattle.tables.proofs.Gate.{size-passes}
+use Rattle.tables.proofs.Gate.{size_passes}
 use Rattle.specification.proofs.reading.check_moves.Statement.{statement}
 use Rattle.specification.proofs.reading.check_moves.Tie as tie
 
 later : {m : Machine} (words : List ℕ) {a : Answer} → Tabled m → m.states ≤ length words → Judged (sound_checks m words) Passed a → Judged (move_checks m ++ state_checks m words) Passed a
-later {m} words t h v = let p = size-passes t in judged_rest (size_checks m ++ check 3 (Short m.states (length words)) ∷ []) (p.0, (p.1.0, (long h, tt))) v
+later {m} words t h v = let p = size_passes t in judged_rest (size_checks m ++ check 3 (Short m.states (length words)) ∷ []) (p.0, (p.1.0, (long h, tt))) v
 
 returns : tie.Need-returns
-returns c = judged-or (later c.before.before.before.before.before.args.words.now c.before.before.before.before.before.requires.0 c.before.before.before.before.before.requires.1 c.before.before.check_sound.ensures) (λ l _. halt l) (λ _ v. absurd (omega (arith, (judged_number 10 13 v refl (λ e. omega arith)).0)))
+returns c = judged_or (later c.before.before.before.before.before.args.words.now c.before.before.before.before.before.requires.0 c.before.before.before.before.before.requires.1 c.before.before.check_sound.ensures) (λ l _. halt l) (λ _ v. absurd (omega (arith, (judged_number 10 13 v refl (λ e. omega arith)).0)))
 
 returns-2 : tie.Need-returns-2
-returns-2 c = judged-or (later c.before.before.before.before.before.args.words.now c.before.before.before.before.before.requires.0 c.before.before.before.before.before.requires.1 c.before.before.check_sound.ensures) (λ _ e. absurd (c.if1.false e)) pass
+returns-2 c = judged_or (later c.before.before.before.before.before.args.words.now c.before.before.before.before.before.requires.0 c.before.before.before.before.before.requires.1 c.before.before.check_sound.ensures) (λ _ e. absurd (c.if1.false e)) pass
 
 pub check-moves-spec : {M : Type 1} → statement M
 check-moves-spec = tie.close (tie.spec (λ c κs. search rules) returns returns-2)

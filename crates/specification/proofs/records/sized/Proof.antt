@@ -16,7 +16,7 @@ use Rattle.specification.specs.inner.Private.{Decoded}
 use Rattle.specification.specs.declared.file.Bodies.{Bodies}
 use Rattle.specification.specs.declared.records.Sizes.{Sizes}
 use Rattle.specification.proofs.Laws.{worded_few, laid_out}
-use Rattle.specification.proofs.Entries.{count-few}
+use Rattle.specification.proofs.Entries.{count_few}
 use Rattle.specification.proofs.records.sized.Statement.{statement}
 use Rattle.specification.proofs.records.sized.Tie as tie
 
@@ -70,7 +70,7 @@ returns-4 : tie.Need-returns-4
 returns-4 c = it_fails λ e. omega (arith, e.texts, sum_is c.before.before.before.before.before.before.before.before.before.before.before.before.requires, long c.before.before.before.before.before.before.before.before.before.before.before.before.requires 3 (omega arith))
 
 bodies-fit-requires : tie.Need-bodies-fit-requires
-bodies-fit-requires c κs = omega (arith, count-few c.before.before.before.before.before.before.before.before.before.before.before.before.requires.0.entries, c.before.before.before.before.before.before.before.before.before.before.before.before.requires.1.count)
+bodies-fit-requires c κs = omega (arith, count_few c.before.before.before.before.before.before.before.before.before.before.before.before.requires.0.entries, c.before.before.before.before.before.before.before.before.before.before.before.before.requires.1.count)
 
 returns-5 : tie.Need-returns-5
 returns-5 c =

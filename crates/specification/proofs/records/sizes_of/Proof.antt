@@ -21,15 +21,15 @@ module _ {file : List ℕ} {b : Bodies} (p : WellFormed file × Decoded file b) 
   inside = let o = laid_out file p.0 in omega (arith, o.0, o.1, o.2, p.1.at 0 (omega (arith, p.0.headed.count)))
 
   -- by what is read, and nothing else of the function
-  sizes-are : {n o s i e : ℕ} → n ≡ get_or file (get_or b.at 0 0) 0 → o ≡ get_or file (get_or b.at 0 0 + 1) 0 → s ≡ get_or file (get_or b.at 0 0 + 2) 0 → i ≡ get_or file (get_or b.at 0 0 + 3) 0 → e ≡ cond (rests_of file) 0 s
+  sizes_are : {n o s i e : ℕ} → n ≡ get_or file (get_or b.at 0 0) 0 → o ≡ get_or file (get_or b.at 0 0 + 1) 0 → s ≡ get_or file (get_or b.at 0 0 + 2) 0 → i ≡ get_or file (get_or b.at 0 0 + 3) 0 → e ≡ cond (rests_of file) 0 s
       → ◌≡◌ {A = Sizes} (record { inputs = n; outputs = o; states = s; initial = i; evolutions = get_or b.length 2 0 / 3; first = get_or b.at 1 0; more = b.count - kinds; worded = e }) (sizes_of file)
-  sizes-are n o s i e =
+  sizes_are n o s i e =
       let d = p.1 in
       let few = p.0.headed.count in
       cc (n, o, s, i, e, d.at 0 (omega (arith, few)), d.long 2 (omega (arith, few)), d.at 1 (omega (arith, few)), d.count)
 
 returns : tie.Need-returns
-returns c = sizes-are c.before.before.before.before.before.before.before.before.before.before.before.before.before.requires c.before.before.before.before.before.before.before.wide2.ensures.0 c.before.before.before.before.before.wide3.ensures.0 c.before.before.before.before.before.before.before.before.before.wide.ensures.0 c.before.before.before.wide4.ensures.0 c.worded-of.ensures
+returns c = sizes_are c.before.before.before.before.before.before.before.before.before.before.before.before.before.requires c.before.before.before.before.before.before.before.wide2.ensures.0 c.before.before.before.before.before.wide3.ensures.0 c.before.before.before.before.before.before.before.before.before.wide.ensures.0 c.before.before.before.wide4.ensures.0 c.worded-of.ensures
 
 add_wide : tie.Need-overflow-add-wide
 add_wide c = omega (arith, inside c.before.before.requires)

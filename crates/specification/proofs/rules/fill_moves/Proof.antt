@@ -12,10 +12,10 @@ use Rattle.verdict.specs.Checks.{Finds, at}
 use Rattle.verdict.specs.declared.Found.TheVariants.{Nothing}
 use Rattle.verdict.proofs.Tests.{Unseen, unseen_start, unseen_more, unseen_at, unseen_end, at_something}
 use Rattle.verdict.proofs.Fills.{filled_none, filled_at, filled_map, filled_widen}
-use Rattle.machine.proofs.Couples.{next-state, couples_bound, couple_below}
+use Rattle.machine.proofs.Couples.{next_state, couples_bound, couple_below}
 use Rattle.specification.specs.Rules.{rule_of, leads_to, TwoRules}
 use Rattle.specification.specs.inner.Private.{rest_of, Noted}
-use Rattle.specification.proofs.Scan.{Tally, Applies, Begins, begins, tally_start, tally-skip, tally-past, tally-take, tally-two, two_fire, leads_away, tally-all, tally-at, tally-noted, no-two, Onward, onward-start, onward-more}
+use Rattle.specification.proofs.Scan.{Tally, Applies, Begins, begins, tally_start, tally_skip, tally_past, tally_take, tally_two, two_fire, leads_away, tally_all, tally_at, tally_noted, no_two, Onward, onward_start, onward_more}
 use Rattle.specification.proofs.rules.fill_moves.Statement.{statement}
 use Rattle.specification.proofs.rules.fill_moves.Tie as tie
 
@@ -47,7 +47,7 @@ rest-of-requires : tie.Need-rest-of-requires invariant-loop2 decreases-loop2 inv
 rest-of-requires c κs = omega (arith, c.before.before.before.before.before.before.requires.0.laid.ranges.few_states)
 
 loop-holds : tie.Need-loop-init invariant-loop2 decreases-loop2 invariant-loop decreases-loop invariant-search decreases-search
-loop-holds c = (search rules, search rules, unseen_at c.before.before.before.search.invariant.2 (omega arith), omega (arith, c.before.before.before.search.invariant.3.same_length), onward-start (omega arith))
+loop-holds c = (search rules, search rules, unseen_at c.before.before.before.search.invariant.2 (omega arith), omega (arith, c.before.before.before.search.invariant.3.same_length), onward_start (omega arith))
 
 mul-p : tie.Need-overflow-mul-p invariant-loop2 decreases-loop2 invariant-loop decreases-loop invariant-search decreases-search
 mul-p c = omega (arith, couples_bound c.before.before.before.before.before.search.s c.before.before.before.before.before.before.before.before.before.args.m (omega arith) (omega arith))
@@ -69,10 +69,10 @@ loop2-again c =
     let f = c.before.before.before.before.before.before.before.before.before.before.before.before.before.before.requires.1.at c.before.before.before.before.loop2.r (omega arith) in
     let is = c.before.before.before.before.loop2.invariant.1 (omega arith) in
     let seen : Tally (Applies c.before.before.before.before.before.before.before.before.before.before.before.before.before.before.args.file.now c.before.before.before.before.before.before.before.before.before.before.before.before.before.before.args.z c.before.before.before.before.before.before.before.before.before.before.search.s c.before.before.before.before.before.before.loop.v) (leads_to c.before.before.before.before.before.before.before.before.before.before.before.before.before.before.args.file.now c.before.before.before.before.before.before.before.before.before.before.before.before.before.before.args.z) (rest_of c.before.before.before.before.before.before.before.before.before.before.before.before.before.before.args.z.worded c.before.before.before.before.before.before.before.before.before.before.search.s) (c.before.before.before.before.loop2.r + 1) c.before.if1.to = ⊎_elim
-    (λ w. tally-at (tally-take c.before.before.before.before.loop2.invariant.3 (let n = w.1 in omega (arith, c.before.before.before.before.before.before.before.rest_of.ensures)) (leads_away c.before.before.before.before.before.before.before.before.before.before.before.before.before.before.requires.0.laid.ranges.few_states c.before.before.before.before.before.before.before.before.before.before.before.before.before.before.requires.5 (omega arith) is c.before.before.before.before.loop2.invariant.4 (c.before.before.before.before.before.before.before.before.before.before.before.before.before.before.requires.2 c.before.before.before.before.loop2.r (omega arith))) (record { below = omega arith; rule = is; worded = c.before.before.before.before.loop2.invariant.4; holds = c.before.before.rule-holds.ensures.holds w.0.taken })) refl (w.3 ∙ w.2.ensures))
-    (λ w. tally-at (tally-skip c.before.before.before.before.loop2.invariant.3 (λ f. c.before.before.rule-holds.ensures.fails w.0.left f.holds)) refl w.1)
+    (λ w. tally_at (tally_take c.before.before.before.before.loop2.invariant.3 (let n = w.1 in omega (arith, c.before.before.before.before.before.before.before.rest_of.ensures)) (leads_away c.before.before.before.before.before.before.before.before.before.before.before.before.before.before.requires.0.laid.ranges.few_states c.before.before.before.before.before.before.before.before.before.before.before.before.before.before.requires.5 (omega arith) is c.before.before.before.before.loop2.invariant.4 (c.before.before.before.before.before.before.before.before.before.before.before.before.before.before.requires.2 c.before.before.before.before.loop2.r (omega arith))) (record { below = omega arith; rule = is; worded = c.before.before.before.before.loop2.invariant.4; holds = c.before.before.rule-holds.ensures.holds w.0.taken })) refl (w.3 ∙ w.2.ensures))
+    (λ w. tally_at (tally_skip c.before.before.before.before.loop2.invariant.3 (λ f. c.before.before.rule-holds.ensures.fails w.0.left f.holds)) refl w.1)
     c.before.if1.branch in
-    (omega (arith, f.upto), λ h. f.same (omega arith) ∙ is, search rules, tally-past seen (omega (arith, f.after)) (λ q h l g. f.between q h (omega arith) (g.rule ∙ sym is)), omega (arith, f.after, c.before.before.before.before.loop2.invariant.4))
+    (omega (arith, f.upto), λ h. f.same (omega arith) ∙ is, search rules, tally_past seen (omega (arith, f.after)) (λ q h l g. f.between q h (omega arith) (g.rule ∙ sym is)), omega (arith, f.after, c.before.before.before.before.loop2.invariant.4))
 
 slice-write-table : tie.Need-slice-write-table invariant-loop2 decreases-loop2 invariant-loop decreases-loop invariant-search decreases-search
 slice-write-table c = omega (arith, c.before.before.before.loop.invariant.3, digits_lt c.before.before.before.before.before.before.search-test.true c.before.before.loop-test.true)
@@ -80,12 +80,12 @@ slice-write-table c = omega (arith, c.before.before.before.loop.invariant.3, dig
 loop-again : tie.Need-loop-preserved invariant-loop2 decreases-loop2 invariant-loop decreases-loop invariant-search decreases-search
 loop-again c =
     let h = c.before.before.loop-test.true in
-    let t = tally-all c.before.before.before.before.before.before.before.before.before.before.before.requires.0.laid c.before.before.before.before.before.before.search-test.true c.before.before.before.before.before.before.before.before.before.before.before.requires.2 (omega arith) c.before.loop2.invariant.3 in
-    (search rules, search rules, unseen_at (unseen_more c.before.before.before.loop.invariant.2 (no-two h t (omega arith))) (omega arith), search rules, onward-more c.before.before.before.loop.invariant.4 (omega (arith, c.before.before.before.loop.invariant.3, digits_lt c.before.before.before.before.before.before.search-test.true h)) (tally-noted h t (omega arith)) (omega arith))
+    let t = tally_all c.before.before.before.before.before.before.before.before.before.before.before.requires.0.laid c.before.before.before.before.before.before.search-test.true c.before.before.before.before.before.before.before.before.before.before.before.requires.2 (omega arith) c.before.loop2.invariant.3 in
+    (search rules, search rules, unseen_at (unseen_more c.before.before.before.loop.invariant.2 (no_two h t (omega arith))) (omega arith), search rules, onward_more c.before.before.before.loop.invariant.4 (omega (arith, c.before.before.before.loop.invariant.3, digits_lt c.before.before.before.before.before.before.search-test.true h)) (tally_noted h t (omega arith)) (omega arith))
 
 search-again : tie.Need-search-preserved invariant-loop2 decreases-loop2 invariant-loop decreases-loop invariant-search decreases-search
 search-again c =
-    let n = next-state c.before.before.before.before.before.before.before.before.before.args.m c.before.before.before.before.before.search.s in
+    let n = next_state c.before.before.before.before.before.before.before.before.before.args.m c.before.before.before.before.before.search.s in
     (search rules, search rules, unseen_at c.before.loop.invariant.2 (omega (arith, n)), filled_at (c.before.loop.invariant.4.since _ c.before.before.before.before.before.search.invariant.3) (omega (arith, n)))
 
 same_length : tie.Need-same-length invariant-loop2 decreases-loop2 invariant-loop decreases-loop invariant-search decreases-search
@@ -104,7 +104,7 @@ returns-2 : tie.Need-returns-2 invariant-loop2 decreases-loop2 invariant-loop de
 returns-2 c =
     let i = c.before.before.before.before.loop2.invariant in (
       at (record {
-        here = record { couple = record { state = c.before.before.before.before.before.before.before.before.before.search-test.true; setting = c.before.before.before.before.before.loop-test.true; number = refl }; two = two_fire (tally-two i.3 (λ e. c.if2.true (e ∙ sym c.before.before.before.before.before.before.before.rest_of.ensures)) (record { below = omega arith; rule = i.1 (omega arith); worded = i.4; holds = c.before.before.rule-holds.ensures.holds c.before.if1.true })); s = _; v = _ };
+        here = record { couple = record { state = c.before.before.before.before.before.before.before.before.before.search-test.true; setting = c.before.before.before.before.before.loop-test.true; number = refl }; two = two_fire (tally_two i.3 (λ e. c.if2.true (e ∙ sym c.before.before.before.before.before.before.before.rest_of.ensures)) (record { below = omega arith; rule = i.1 (omega arith); worded = i.4; holds = c.before.before.rule-holds.ensures.holds c.before.if1.true })); s = _; v = _ };
         first = c.before.before.before.before.before.before.loop.invariant.2.none;
       }),
       filled_widen (omega (arith, digits_lt c.before.before.before.before.before.before.before.before.before.search-test.true c.before.before.before.before.before.loop-test.true)) (λ k x e. absurd (at_something e)) (c.before.before.before.before.before.before.loop.invariant.4.since _ c.before.before.before.before.before.before.before.before.before.before.search.invariant.3),

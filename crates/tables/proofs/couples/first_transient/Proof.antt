@@ -10,7 +10,7 @@ use lib.Arith.{digits_lt}
 use Rattle.verdict.proofs.Tests.{Unseen, unseen_start, unseen_more, unseen_here, unseen_end}
 use Rattle.machine.specs.Moves.{table_moves, Transient}
 use Rattle.machine.proofs.Couples.{couples_bound, couple_below, some_setting}
-use Rattle.tables.proofs.Transients.{transient-at, transient-not}
+use Rattle.tables.proofs.Transients.{transient_at, transient_not}
 use Rattle.tables.proofs.couples.first_transient.Statement.{statement}
 use Rattle.tables.proofs.couples.first_transient.Tie as tie
 
@@ -46,7 +46,7 @@ returns : tie.Need-returns invariant-loop decreases-loop
 returns c =
     let w = c.before.before.before.wide.ensures.0 in
     let k = c.before.wide2.ensures.0 ∙ ap (λ t. get_or c.before.before.before.before.before.before.before.before.args.table.now (t * c.before.before.before.before.before.before.before.before.args.m + c.before.before.before.before.before.before.loop.p % c.before.before.before.before.before.before.before.before.args.m) 0) w in
-    unseen_here c.before.before.before.before.before.before.loop.invariant.2 (transient-at c.before.before.before.before.before.before.before.before.args.table.now (some_setting c.before.before.before.before.before.before.before.before.args.states c.before.before.before.before.before.before.before.before.args.m c.before.before.before.before.before.before.loop.p (omega arith)) (omega arith) (λ e. c.if1.true (k ∙ e ∙ sym w)))
+    unseen_here c.before.before.before.before.before.before.loop.invariant.2 (transient_at c.before.before.before.before.before.before.before.before.args.table.now (some_setting c.before.before.before.before.before.before.before.before.args.states c.before.before.before.before.before.before.before.before.args.m c.before.before.before.before.before.before.loop.p (omega arith)) (omega arith) (λ e. c.if1.true (k ∙ e ∙ sym w)))
 
 add-p : tie.Need-overflow-add-p invariant-loop decreases-loop
 add-p c = omega (arith, couples_bound c.before.before.before.before.before.before.before.before.args.states c.before.before.before.before.before.before.before.before.args.m c.before.before.before.before.before.before.before.before.requires.0.few_states c.before.before.before.before.before.before.before.before.requires.0.few_settings)
@@ -55,7 +55,7 @@ loop-again : tie.Need-loop-preserved invariant-loop decreases-loop
 loop-again c =
     let w = c.before.before.before.wide.ensures.0 in
     let k = c.before.wide2.ensures.0 ∙ ap (λ t. get_or c.before.before.before.before.before.before.before.before.args.table.now (t * c.before.before.before.before.before.before.before.before.args.m + c.before.before.before.before.before.before.loop.p % c.before.before.before.before.before.before.before.before.args.m) 0) w in
-    (search rules, search rules, unseen_more c.before.before.before.before.before.before.loop.invariant.2 (transient-not c.before.before.before.before.before.before.before.before.args.table.now (sym k ∙ c.if1.false ∙ w)))
+    (search rules, search rules, unseen_more c.before.before.before.before.before.before.loop.invariant.2 (transient_not c.before.before.before.before.before.before.before.before.args.table.now (sym k ∙ c.if1.false ∙ w)))
 
 returns-2 : tie.Need-returns-2 invariant-loop decreases-loop
 returns-2 c = unseen_end c.before.loop.invariant.2 (λ k x. omega (arith, couple_below x.couple))

@@ -8,7 +8,7 @@ use borrow.Author.Tests.{not-true, not-false}
 use native.Mathlib.Nat.{div-lt_iff_lt-mul}
 use mathlib.Core.Bool.{false}
 use Rattle.verdict.proofs.Tests.{true≢false}
-use Rattle.tables.proofs.Closure.{Scanned, unseen, unseen_set, scan-more, scan-add, scan-end, scan_start, restarts}
+use Rattle.tables.proofs.Closure.{Scanned, unseen, unseen_set, scan_more, scan_add, scan_end, scan_start, restarts}
 use Rattle.machine.proofs.Couples.{couples_bound, some_setting}
 use Rattle.machine.specs.Limits.{most_states}
 use Rattle.tables.proofs.states.reached.Statement.{statement}
@@ -48,16 +48,16 @@ loop-less c =
 loop-again : tie.Need-loop-preserved invariant-loop decreases-loop
 loop-again c =
     let w = c.before.before.wide.ensures.0 in
-    (search rules, search rules, rw w (scan-add _ _ _ _ (positive c.before.before.before.before) (omega (arith, small c.before.before)) c.before.if1.true c.before.before.before.before.before.loop.invariant.2))
+    (search rules, search rules, rw w (scan_add _ _ _ _ (positive c.before.before.before.before) (omega (arith, small c.before.before)) c.before.if1.true c.before.before.before.before.before.loop.invariant.2))
 
 loop-again-2 : tie.Need-loop-preserved-2 invariant-loop decreases-loop
-loop-again-2 c = (search rules, search rules, scan-more _ _ _ _ (λ e. ap (λ k. get_or c.before.before.before.before.before.loop.seen k false) (sym c.before.before.wide.ensures.0) ∙ not-false _ c.if2.false) c.before.before.before.before.before.loop.invariant.2)
+loop-again-2 c = (search rules, search rules, scan_more _ _ _ _ (λ e. ap (λ k. get_or c.before.before.before.before.before.loop.seen k false) (sym c.before.before.wide.ensures.0) ∙ not-false _ c.if2.false) c.before.before.before.before.before.loop.invariant.2)
 
 loop-again-3 : tie.Need-loop-preserved-3 invariant-loop decreases-loop
-loop-again-3 c = (search rules, search rules, scan-more _ _ _ _ (λ e. absurd (true≢false (sym e ∙ c.if1.false))) c.before.before.before.before.loop.invariant.2)
+loop-again-3 c = (search rules, search rules, scan_more _ _ _ _ (λ e. absurd (true≢false (sym e ∙ c.if1.false))) c.before.before.before.before.loop.invariant.2)
 
 returns : tie.Need-returns invariant-loop decreases-loop
-returns c = let pre = c.before.before.before.requires in scan-end _ _ _ pre (omega arith) c.before.loop.invariant.2
+returns c = let pre = c.before.before.before.requires in scan_end _ _ _ pre (omega arith) c.before.loop.invariant.2
 
 pub reached-spec : {M : Type 1} → statement M
 reached-spec =
