@@ -1,0 +1,55 @@
+-- `reach` walks over the settings while the couples in front have marks of at least x.
+use native.Mathlib.Omega.{arith}
+use mathlib.Core.Path.{◌≡◌}
+use Prim.Native.Nat.{◌-◌, ◌<◌, ◌^◌}
+use lib.ListN.{length}
+use Rattle.shorten.proofs.Walking.{next_state, entered_inside, moved_inside, reaching_start, reaching_entered, reaching_moved, reaching_more, reaching_end}
+use Rattle.shorten.proofs.reach.Goals as goal
+
+pub loop-i-init : goal.loop-i-init
+loop-i-init c = reaching_start c.requires.state
+
+below : (c : goal.After-setting) → c.setting.result < 2 ^ c.args.frame.inputs
+below c = rw c.setting.ensures.0 (c.requires.below c.loop-i.i c.loop-i-test.true)
+
+pub change-visited-requires : goal.change-visited-requires
+change-visited-requires c = (c.requires.ground.checked, c.loop-i.invariant.state, below c)
+
+entered : (c : goal.After-change-visited) → c.change-visited.result.entered < length c.args.marks.now
+entered c = entered_inside c.requires.ground c.loop-i.invariant.state (below c.before) c.change-visited.ensures
+
+moved : (c : goal.After-change-visited) → c.change-visited.result.moved < length c.args.marks.now
+moved c = moved_inside c.requires.ground c.loop-i.invariant.state (below c.before) c.change-visited.ensures
+
+pub returns-then-marks-entered : goal.returns-then-marks-entered
+returns-then-marks-entered c = let b = c.before.before in
+    reaching_entered b.before.before.before.loop.invariant b.before.before.loop-test.true b.before.setting.ensures.0 b.change.ensures c.if-marks-entered.true
+
+pub returns-then-marks-moved : goal.returns-then-marks-moved
+returns-then-marks-moved c = let b = c.before.before.before.before in
+    reaching_moved b.before.before.before.loop.invariant b.before.before.loop-test.true b.before.setting.ensures.0 b.change.ensures c.if-marks-moved.true
+
+pub loop-i-preserved : goal.loop-i-preserved
+loop-i-preserved c =
+    let b = c.before.before.before.before in
+    let l = b.before.before.before.loop in
+    reaching_more l.invariant b.before.before.loop-test.true b.before.setting.ensures.0 b.change.ensures
+    (next_state b.before.before.before.before.before.before.before.requires.ground l.invariant.state (below b.before) b.change.ensures)
+    (omega (arith, c.if-marks-entered.false)) (omega (arith, c.if-marks-moved.false))
+
+pub returns : goal.returns
+returns c =
+    let e : c.loop-i.i ≡ length c.args.run.now = omega (arith, c.loop-i.invariant.within) in
+    reaching_end c.loop-i.invariant e
+
+pub offset_bounds-marks-entered : goal.offset_bounds-marks-entered
+offset_bounds-marks-entered c = omega (arith, entered c)
+
+pub bounds-marks-entered : goal.bounds-marks-entered
+bounds-marks-entered c = entered c.before
+
+pub offset_bounds-marks-moved : goal.offset_bounds-marks-moved
+offset_bounds-marks-moved c = omega (arith, moved c.before.before)
+
+pub bounds-marks-moved : goal.bounds-marks-moved
+bounds-marks-moved c = moved c.before.before.before

@@ -1,0 +1,20 @@
+-- What is left of the line is that of the settings left; at the end it is the line feed.
+use native.Mathlib.Omega.{arith}
+use mathlib.Core.Path.{◌∙◌}
+use Prim.Native.Nat.{◌-◌}
+use lib.ListN.{drop_of_length-le}
+use Rattle.show.proofs.Lists.{drop_next}
+use Rattle.show.proofs.Steps.{left_all, left_less, left_none}
+use Rattle.show.proofs.fields.Goals as goal
+
+pub loop-i-init : goal.loop-i-init
+loop-i-init c = (omega arith, left_all)
+
+pub loop-i-preserved : goal.loop-i-preserved
+loop-i-preserved c = (omega arith, left_less (rw (drop_next c.args.settings.now c.loop-i.i c.loop-i-test.true) at c.loop-i.invariant.1) (rw c.setting.ensures.0 at c.field-written.ensures))
+
+pub shape_of-out : goal.shape_of-out
+shape_of-out c = c.byte.ensures.same_length ∙ c.loop-i.invariant.1.adds.same_length
+
+pub returns : goal.returns
+returns c = left_none (left_less (rw (drop_of_length-le c.args.settings.now c.loop-i-test.false) at c.loop-i.invariant.1) c.byte.ensures)

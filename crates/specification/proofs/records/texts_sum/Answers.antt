@@ -1,0 +1,21 @@
+-- `texts_sum` adds up lengths: `sum` is that of the first r.
+use borrow.Author.Rules.{rules}
+use native.Mathlib.Omega.{arith}
+use mathlib.Core.Path.{◌≡◌, ap}
+use Prim.Native.Nat.{◌-◌}
+use Rattle.verdict.specs.Below.{sum_to}
+use Rattle.specification.specs.Records.{text_length}
+use Rattle.verdict.proofs.Below.{sum_more}
+use Rattle.specification.proofs.records.texts_sum.Goals as goal
+
+pub loop-r-init : goal.loop-r-init
+unfolding sum_to
+loop-r-init c = search rules
+
+pub loop-r-preserved : goal.loop-r-preserved
+loop-r-preserved c = (search rules, omega (arith, sum_more (text_length c.args.file.now c.args.z) c.loop-r.r), search rules)
+
+pub returns : goal.returns
+returns c =
+    let e : c.loop-r.r ≡ c.args.count = omega arith in
+    omega (arith, ap (sum_to (text_length c.args.file.now c.args.z)) e)
