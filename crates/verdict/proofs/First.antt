@@ -19,14 +19,17 @@ of_first (c ∷ cs) a b (refused l e) (inl (n, m)) = same_answer a b (e ∙ n) (
 of_first (c ∷ cs) a b (refused l e) (inr (n, f)) = absurd (n.nowhere _ l.here)
 of_first (c ∷ cs) a b (next m v) (inl (n, l)) = absurd (m.nowhere _ l.here)
 of_first (c ∷ cs) a b (next m v) (inr (n, f)) = of_first cs a b v f
+of_first [] a b _ x3 = elim x3 [ ]
 
 some_fails : (cs : List Check) (a : Answer) → FirstFails cs a → Fails cs
 some_fails (c ∷ cs) a (inl (n, l)) = inl (a.place, l.here)
 some_fails (c ∷ cs) a (inr (n, f)) = inr (some_fails cs a f)
+some_fails [] a x' = elim x' [ ]
 
 none_fails : (cs : List Check) → Passes cs → Fails cs → ⊥
 none_fails (c ∷ cs) p (inl (k, f)) = p.0.nowhere k f
 none_fails (c ∷ cs) p (inr f) = none_fails cs p.1 f
+none_fails [] p x'' = elim x'' [ ]
 
 module _ {cs : List Check} {a : Answer} (v : Judged cs Passed a) where
   -- refused: the answer is the first check that fails, so one does

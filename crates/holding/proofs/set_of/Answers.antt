@@ -21,4 +21,4 @@ returns c =
     let e : c.loop-v.v ≡ c.settings-v-end.result = omega arith in
     let at : (k : ℕ) → c.settings-v-end.result ≡ k → SetOf words k (λ u. Holds c.args.inputs u c.args.text.now) c.loop-v.set =
     λ k f. subst (λ (j : ℕ). SetOf words j (λ u. Holds c.args.inputs u c.args.text.now) c.loop-v.set) (e ∙ f) c.loop-v.invariant.1 in
-record { few = λ h. at _ (c.settings-v-end.ensures.few.0 h); many = λ h. at _ (c.settings-v-end.ensures.many h) }
+    record { few = λ h. at _ (c.settings-v-end.ensures.few.0 h); many = λ h. at _ (c.settings-v-end.ensures.many h) }

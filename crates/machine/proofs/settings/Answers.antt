@@ -4,6 +4,6 @@ use Rattle.machine.proofs.Couples.{settings_bound}
 use Rattle.machine.proofs.settings.Goals as goal
 
 pub returns : goal.returns
-returns c = 
+returns c =
     let h = settings_bound {n = c.args.inputs} c.if-inputs-gt-INPUTS.false in
-record { few = (λ l. omega (arith, h), omega (arith, h)); many = λ l. omega arith }
+    record { few = (λ l. omega (arith, h), omega (arith, h)); many = λ l. omega arith }

@@ -18,7 +18,7 @@ pub keep_one-to-requires : goal.keep_one-to-requires
 keep_one-to-requires c = 
     let k = c.loop-at.invariant in
     let h = here c.before.before in
-record { ground = (record { checked = c.requires.ground.0.checked; room = rw k.as_long k.room }, h.run); few = (rw (same_length k) k.few, k.low, omega (arith, h.at.ends), h.at.within) }
+    record { ground = (record { checked = c.requires.ground.0.checked; room = rw k.as_long k.room }, h.run); few = (rw (same_length k) k.few, k.low, omega (arith, h.at.ends), h.at.within) }
 
 pub overflow_add-to : goal.overflow_add-to
 overflow_add-to c = 

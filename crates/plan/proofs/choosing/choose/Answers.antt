@@ -14,7 +14,7 @@ pub choose_one-bytes-requires : goal.choose_one-bytes-requires
 choose_one-bytes-requires c = 
     let p = c.requires in
     let l = c.loop-c in
-record { room_for = record { total = c.args.couples; room = rw l.invariant.1 p.0; below = c.loop-c-test.true }; c_in_bounds = omega (arith, l.invariant.2, p.1) }
+    record { room_for = record { total = c.args.couples; room = rw l.invariant.1 p.0; below = c.loop-c-test.true }; c_in_bounds = omega (arith, l.invariant.2, p.1) }
 
 pub overflow_add-bytes : goal.overflow_add-bytes
 overflow_add-bytes c = omega (arith, c.loop-c.invariant.3.bytes_few, c.choose_one-bytes.ensures.bytes_few, c.requires.couples_in_bounds)

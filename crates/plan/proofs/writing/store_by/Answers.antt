@@ -22,7 +22,7 @@ pub store_run-requires : goal.store_run-requires
 store_run-requires c = 
     let a = c.args in
     let long = length_when a.parents.now a.size a.couple a.weight c.if-several.true in
-record { in_tree = c.requires.in_tree.0; changes_lt_unmarked = (omega (arith, c.large-changes.ensures.0, c.requires.in_tree.1), rw (length_rest _ 2) (omega (arith, long, c.requires.weight_in_bounds, c.large-changes.ensures.0))) }
+    record { in_tree = c.requires.in_tree.0; changes_lt_unmarked = (omega (arith, c.large-changes.ensures.0, c.requires.in_tree.1), rw (length_rest _ 2) (omega (arith, long, c.requires.weight_in_bounds, c.large-changes.ensures.0))) }
 
 pub overflow_add-result : goal.overflow_add-result
 overflow_add-result c = 
@@ -39,7 +39,7 @@ pub store_run-requires-2 : goal.store_run-requires-2
 store_run-requires-2 c = 
     let a = c.args in
     let long = length_when a.parents.now a.size a.couple a.weight c.if-several.false in
-record { in_tree = c.requires.in_tree.0; changes_lt_unmarked = (omega (arith, c.large-changes.ensures.0, c.requires.in_tree.1), omega (arith, long, c.requires.weight_in_bounds, c.large-changes.ensures.0)) }
+    record { in_tree = c.requires.in_tree.0; changes_lt_unmarked = (omega (arith, c.large-changes.ensures.0, c.requires.in_tree.1), omega (arith, long, c.requires.weight_in_bounds, c.large-changes.ensures.0)) }
 
 pub returns : goal.returns
 returns c = 

@@ -7,7 +7,7 @@ pub store_by-requires : goal.store_by-requires
 store_by-requires c = 
     let a = c.args in
     let p = c.requires in
-record { in_tree = (p.0, p.1.1.0 c.if-chosen-c.true); weight_in_bounds = rw (← piece_chosen a.several a.parents.now a.weights.now a.size a.chosen.now a.c c.if-chosen-c.true) p.1.1.1 }
+    record { in_tree = (p.0, p.1.1.0 c.if-chosen-c.true); weight_in_bounds = rw (← piece_chosen a.several a.parents.now a.weights.now a.size a.chosen.now a.c c.if-chosen-c.true) p.1.1.1 }
 
 pub returns-then-chosen-c : goal.returns-then-chosen-c
 returns-then-chosen-c c = 

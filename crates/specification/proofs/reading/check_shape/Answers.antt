@@ -41,7 +41,7 @@ returns c =
     let s = c.sized.ensures.holds c.if-not-sized.false in
     let a = c.args in
     let room = subst (λ z. Judged (room_checks (record { needed = couples z; has = a.table }) (record { needed = z.states; has = a.words }) (record { needed = z.evolutions; has = a.records })) Passed c.check_rooms-answer.result) c.sizes_of-z.ensures (rw c.couples.ensures at c.check_rooms-answer.ensures) in
-record { judged = pass (meets f) (pass (meets s) room); shaped = λ e. (f, s, c.sizes_of-z.ensures) }
+    record { judged = pass (meets f) (pass (meets s) room); shaped = λ e. (f, s, c.sizes_of-z.ensures) }
 
 pub bodies_of-b-requires : goal.bodies_of-b-requires
 bodies_of-b-requires c = c.formed.ensures.holds c.if-not-formed.false

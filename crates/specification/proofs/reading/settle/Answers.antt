@@ -19,7 +19,7 @@ fill_moves-requires c =
 pub returns-in-At : goal.returns-in-At
 returns-in-At c = 
     let f = scanned (c.settings-m.ensures.few.0 c.requires.0.ranges.few_inputs) c.fill_moves.ensures in
-record { judged = judged_on 7 c.check_records-a.ensures refl c.if-a-ne0.left (halt (at_least f.0 c.in-At.is)); table = filled_map (λ k x h y e. absurd (omega arith)) f.1; words = filled_map (λ k x h y e. y) c.fill_words.ensures }
+    record { judged = judged_on 7 c.check_records-a.ensures refl c.if-a-ne0.left (halt (at_least f.0 c.in-At.is)); table = filled_map (λ k x h y e. absurd (omega arith)) f.1; words = filled_map (λ k x h y e. y) c.fill_words.ensures }
 
 pub check_moves-requires : goal.check_moves-requires
 check_moves-requires c = (tabled _ c.requires.0 c.requires.1 (omega (arith, c.requires.2, c.fill_moves.ensures.fills.same_length)), omega (arith, c.requires.1.states, c.requires.3, c.fill_words.ensures.same_length))
@@ -29,4 +29,4 @@ returns c =
     let f = scanned (c.settings-m.ensures.few.0 c.requires.0.ranges.few_inputs) c.fill_moves.ensures in
     let t = settled c.requires.0 (judged_passes 7 c.check_records-a.ensures refl c.if-a-ne0.left).0 c.in_default.is f c.fill_words.ensures in
     let v = carried t c.requires.1 c.check_moves.ensures in
-record { judged = judged_on 7 c.check_records-a.ensures refl c.if-a-ne0.left (pass t.single v); table = moves_left t v f.1; words = filled_map (λ k x h y e. y) c.fill_words.ensures }
+    record { judged = judged_on 7 c.check_records-a.ensures refl c.if-a-ne0.left (pass t.single v); table = moves_left t v f.1; words = filled_map (λ k x h y e. y) c.fill_words.ensures }

@@ -73,7 +73,7 @@ pub returns-after-search : goal.returns-after-search
 returns-after-search c = 
     let i = c.search.invariant in
     let e : c.args.z.states ≡ c.search.s = omega arith in
-record { finds = subst (Finds _) (sym i.1) (unseen_end i.2 (λ p t. subst (λ s. p < s * c.args.m) e (couple_below t.couple))); fills = filled_map (λ k x h y e. y) (filled_at i.3 (ap (λ s. s * c.args.m) (sym e))) }
+    record { finds = subst (Finds _) (sym i.1) (unseen_end i.2 (λ p t. subst (λ s. p < s * c.args.m) e (couple_below t.couple))); fills = filled_map (λ k x h y e. y) (filled_at i.3 (ap (λ s. s * c.args.m) (sym e))) }
 
 pub shape_of-table-then-to-rest : goal.shape_of-table-then-to-rest
 shape_of-table-then-to-rest c = (c.loop-v.invariant.4.since _ c.search.invariant.3).same_length
