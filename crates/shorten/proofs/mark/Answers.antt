@@ -11,25 +11,13 @@ use Rattle.shorten.proofs.mark.Goals as goal
 pub loop-i-init : goal.loop-i-init
 loop-i-init c = marking_start c.requires.state
 
-below : (c : goal.After-setting) → c.setting.result < 2 ^ c.args.frame.inputs
-below c = rw c.setting.ensures.0 (c.requires.below c.loop-i.i c.loop-i-test.true)
-
 pub change-visited-requires : goal.change-visited-requires
-change-visited-requires c = (c.requires.ground.checked, c.loop-i.invariant.state, below c)
-
-ground : (c : goal.After-change-visited) → let a = c.args in Ground (machine_of a.frame a.table.now) (length c.loop-i.marks)
-ground c = rw c.loop-i.invariant.as_long c.requires.ground
-
-entered : (c : goal.After-change-visited) → c.change-visited.result.entered < length c.loop-i.marks
-entered c = entered_inside (ground c) c.loop-i.invariant.state (below c.before) c.change-visited.ensures
-
-moved : (c : goal.After-change-visited) → c.change-visited.result.moved < length c.loop-i.marks
-moved c = moved_inside (ground c) c.loop-i.invariant.state (below c.before) c.change-visited.ensures
+change-visited-requires c = (c.requires.ground.checked, c.loop-i.invariant.state, (let below : c.setting.result < 2 ^ c.args.frame.inputs = rw c.setting.ensures.0 (c.requires.below c.loop-i.i c.loop-i-test.true) in below))
 
 pub loop-i-preserved : goal.loop-i-preserved
 loop-i-preserved c =
     let l = c.loop-i in
-    marking_more l.invariant c.loop-i-test.true c.setting.ensures.0 (next_state (ground c) l.invariant.state (below c.before) c.change-visited.ensures) c.change-visited.ensures
+    marking_more l.invariant c.loop-i-test.true c.setting.ensures.0 (next_state (let ground : let a = c.args in Ground (machine_of a.frame a.table.now) (length c.loop-i.marks) = rw c.loop-i.invariant.as_long c.requires.ground in ground) l.invariant.state (let below : c.setting.result < 2 ^ c.args.frame.inputs = rw c.setting.ensures.0 (c.requires.below c.loop-i.i c.loop-i-test.true) in below) c.change-visited.ensures) c.change-visited.ensures
 
 pub returns : goal.returns
 returns c =
@@ -37,10 +25,10 @@ returns c =
     marking_end c.loop-i.invariant e
 
 pub offset_bounds-marks-entered : goal.offset_bounds-marks-entered
-offset_bounds-marks-entered c = omega (arith, entered c)
+offset_bounds-marks-entered c = omega (arith, (let entered : c.change-visited.result.entered < length c.loop-i.marks = entered_inside (let ground : let a = c.args in Ground (machine_of a.frame a.table.now) (length c.loop-i.marks) = rw c.loop-i.invariant.as_long c.requires.ground in ground) c.loop-i.invariant.state (let below : c.setting.result < 2 ^ c.args.frame.inputs = rw c.setting.ensures.0 (c.requires.below c.loop-i.i c.loop-i-test.true) in below) c.change-visited.ensures in entered))
 
 pub offset_bounds-marks-moved : goal.offset_bounds-marks-moved
-offset_bounds-marks-moved c = omega (arith, moved c)
+offset_bounds-marks-moved c = omega (arith, (let moved : c.change-visited.result.moved < length c.loop-i.marks = moved_inside (let ground : let a = c.args in Ground (machine_of a.frame a.table.now) (length c.loop-i.marks) = rw c.loop-i.invariant.as_long c.requires.ground in ground) c.loop-i.invariant.state (let below : c.setting.result < 2 ^ c.args.frame.inputs = rw c.setting.ensures.0 (c.requires.below c.loop-i.i c.loop-i-test.true) in below) c.change-visited.ensures in moved))
 
 pub bounds-marks-moved : goal.bounds-marks-moved
-bounds-marks-moved c = simp length-set (moved c)
+bounds-marks-moved c = simp length-set (let moved : c.change-visited.result.moved < length c.loop-i.marks = moved_inside (let ground : let a = c.args in Ground (machine_of a.frame a.table.now) (length c.loop-i.marks) = rw c.loop-i.invariant.as_long c.requires.ground in ground) c.loop-i.invariant.state (let below : c.setting.result < 2 ^ c.args.frame.inputs = rw c.setting.ensures.0 (c.requires.below c.loop-i.i c.loop-i-test.true) in below) c.change-visited.ensures in moved)

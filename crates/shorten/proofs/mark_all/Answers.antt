@@ -11,32 +11,28 @@ use Rattle.shorten.proofs.mark_all.Goals as goal
 pub loop-at-init : goal.loop-at-init
 loop-at-init c = let p = c.requires in all_start p.0.1 p.1
 
-here : (c : goal.After-run_end-end) → let a = c.args in
-    First (machine_of a.frame a.table.now) a.plan.now c.loop-at.at (settings_in c.loop-at.at c.run_end-end.result a.plan.now) c.run_end-end.result
-here c = first_run c.loop-at.invariant.ahead c.loop-at-test.true c.run_end-end.ensures
-
 pub mark-requires : goal.mark-requires
 mark-requires c =
     let a = c.before.before.before.before.before.before.before.before in
-    rw c.loop-at.invariant.as_long (walk_run (settings_in c.loop-at.at c.run_end-end.result a.args.plan.now) a.requires.0.0 (here c.before.before).run)
+    rw c.loop-at.invariant.as_long (walk_run (settings_in c.loop-at.at c.run_end-end.result a.args.plan.now) a.requires.0.0 (let here : let a = c.args in First (machine_of a.frame a.table.now) a.plan.now c.loop-at.at (settings_in c.loop-at.at c.run_end-end.result a.plan.now) c.run_end-end.result = first_run c.loop-at.invariant.ahead c.loop-at-test.true c.run_end-end.ensures in here).run)
 
 pub overflow_add-at : goal.overflow_add-at
-overflow_add-at c = let h = (here c).at in omega (arith, h.ends, h.within)
+overflow_add-at c = let h = (let here : let a = c.args in First (machine_of a.frame a.table.now) a.plan.now c.loop-at.at (settings_in c.loop-at.at c.run_end-end.result a.plan.now) c.run_end-end.result = first_run c.loop-at.invariant.ahead c.loop-at-test.true c.run_end-end.ensures in here).at in omega (arith, h.ends, h.within)
 
 pub slice_bounds-mark-count : goal.slice_bounds-mark-count
-slice_bounds-mark-count c = let h = (here c).at in omega (arith, h.ends, h.within)
+slice_bounds-mark-count c = let h = (let here : let a = c.args in First (machine_of a.frame a.table.now) a.plan.now c.loop-at.at (settings_in c.loop-at.at c.run_end-end.result a.plan.now) c.run_end-end.result = first_run c.loop-at.invariant.ahead c.loop-at-test.true c.run_end-end.ensures in here).at in omega (arith, h.ends, h.within)
 
 pub slice_bounds-mark-start : goal.slice_bounds-mark-start
-slice_bounds-mark-start c = let h = (here c).at in omega (arith, h.ends, h.within)
+slice_bounds-mark-start c = let h = (let here : let a = c.args in First (machine_of a.frame a.table.now) a.plan.now c.loop-at.at (settings_in c.loop-at.at c.run_end-end.result a.plan.now) c.run_end-end.result = first_run c.loop-at.invariant.ahead c.loop-at-test.true c.run_end-end.ensures in here).at in omega (arith, h.ends, h.within)
 
 pub slice_bounds-mark-end : goal.slice_bounds-mark-end
-slice_bounds-mark-end c = let h = (here c).at in omega (arith, h.ends, h.within)
+slice_bounds-mark-end c = let h = (let here : let a = c.args in First (machine_of a.frame a.table.now) a.plan.now c.loop-at.at (settings_in c.loop-at.at c.run_end-end.result a.plan.now) c.run_end-end.result = first_run c.loop-at.invariant.ahead c.loop-at-test.true c.run_end-end.ensures in here).at in omega (arith, h.ends, h.within)
 
 pub loop-at-smaller : goal.loop-at-smaller
-loop-at-smaller c = let h = (here c.before.before.before.before.before).at in omega (arith, h.ends, h.within)
+loop-at-smaller c = let h = (let here : let a = c.args in First (machine_of a.frame a.table.now) a.plan.now c.loop-at.at (settings_in c.loop-at.at c.run_end-end.result a.plan.now) c.run_end-end.result = first_run c.loop-at.invariant.ahead c.loop-at-test.true c.run_end-end.ensures in here).at in omega (arith, h.ends, h.within)
 
 pub loop-at-preserved : goal.loop-at-preserved
-loop-at-preserved c = all_more c.loop-at.invariant (here c.before.before.before.before.before) c.mark.ensures
+loop-at-preserved c = all_more c.loop-at.invariant (let here : let a = c.args in First (machine_of a.frame a.table.now) a.plan.now c.loop-at.at (settings_in c.loop-at.at c.run_end-end.result a.plan.now) c.run_end-end.result = first_run c.loop-at.invariant.ahead c.loop-at-test.true c.run_end-end.ensures in here) c.mark.ensures
 
 pub returns : goal.returns
 returns c = let p = c.requires in record { tells = all_end c.loop-at.invariant (omega (arith, c.loop-at-test.false)) p.0.0.room p.1; few = (c.loop-at.invariant.few, c.loop-at.invariant.as_long) }

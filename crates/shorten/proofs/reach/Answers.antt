@@ -9,17 +9,8 @@ use Rattle.shorten.proofs.reach.Goals as goal
 pub loop-i-init : goal.loop-i-init
 loop-i-init c = reaching_start c.requires.state
 
-below : (c : goal.After-setting) → c.setting.result < 2 ^ c.args.frame.inputs
-below c = rw c.setting.ensures.0 (c.requires.below c.loop-i.i c.loop-i-test.true)
-
 pub change-visited-requires : goal.change-visited-requires
-change-visited-requires c = (c.requires.ground.checked, c.loop-i.invariant.state, below c)
-
-entered : (c : goal.After-change-visited) → c.change-visited.result.entered < length c.args.marks.now
-entered c = entered_inside c.requires.ground c.loop-i.invariant.state (below c.before) c.change-visited.ensures
-
-moved : (c : goal.After-change-visited) → c.change-visited.result.moved < length c.args.marks.now
-moved c = moved_inside c.requires.ground c.loop-i.invariant.state (below c.before) c.change-visited.ensures
+change-visited-requires c = (c.requires.ground.checked, c.loop-i.invariant.state, (let below : c.setting.result < 2 ^ c.args.frame.inputs = rw c.setting.ensures.0 (c.requires.below c.loop-i.i c.loop-i-test.true) in below))
 
 pub returns-then-marks-entered : goal.returns-then-marks-entered
 returns-then-marks-entered c = let b = c.before.before in
@@ -34,7 +25,7 @@ loop-i-preserved c =
     let b = c.before.before.before.before in
     let l = b.before.before.before.loop in
     reaching_more l.invariant b.before.before.loop-test.true b.before.setting.ensures.0 b.change.ensures
-    (next_state b.before.before.before.before.before.before.before.requires.ground l.invariant.state (below b.before) b.change.ensures)
+    (next_state b.before.before.before.before.before.before.before.requires.ground l.invariant.state (let below : b.setting.result < 2 ^ b.args.frame.inputs = rw b.setting.ensures.0 (b.requires.below b.loop-i.i b.loop-i-test.true) in below) b.change.ensures)
     (omega (arith, c.if-marks-entered.false)) (omega (arith, c.if-marks-moved.false))
 
 pub returns : goal.returns
@@ -43,13 +34,13 @@ returns c =
     reaching_end c.loop-i.invariant e
 
 pub offset_bounds-marks-entered : goal.offset_bounds-marks-entered
-offset_bounds-marks-entered c = omega (arith, entered c)
+offset_bounds-marks-entered c = omega (arith, (let entered : c.change-visited.result.entered < length c.args.marks.now = entered_inside c.requires.ground c.loop-i.invariant.state (let below : c.setting.result < 2 ^ c.args.frame.inputs = rw c.setting.ensures.0 (c.requires.below c.loop-i.i c.loop-i-test.true) in below) c.change-visited.ensures in entered))
 
 pub bounds-marks-entered : goal.bounds-marks-entered
-bounds-marks-entered c = entered c.before
+bounds-marks-entered c = (let entered : c.change-visited.result.entered < length c.args.marks.now = entered_inside c.requires.ground c.loop-i.invariant.state (let below : c.setting.result < 2 ^ c.args.frame.inputs = rw c.setting.ensures.0 (c.requires.below c.loop-i.i c.loop-i-test.true) in below) c.change-visited.ensures in entered)
 
 pub offset_bounds-marks-moved : goal.offset_bounds-marks-moved
-offset_bounds-marks-moved c = omega (arith, moved c.before.before)
+offset_bounds-marks-moved c = omega (arith, (let moved : c.change-visited.result.moved < length c.args.marks.now = moved_inside c.requires.ground c.loop-i.invariant.state (let below : c.setting.result < 2 ^ c.args.frame.inputs = rw c.setting.ensures.0 (c.requires.below c.loop-i.i c.loop-i-test.true) in below) c.change-visited.ensures in moved))
 
 pub bounds-marks-moved : goal.bounds-marks-moved
-bounds-marks-moved c = moved c.before.before.before
+bounds-marks-moved c = (let moved : c.change-visited.result.moved < length c.args.marks.now = moved_inside c.requires.ground c.loop-i.invariant.state (let below : c.setting.result < 2 ^ c.args.frame.inputs = rw c.setting.ensures.0 (c.requires.below c.loop-i.i c.loop-i-test.true) in below) c.change-visited.ensures in moved)

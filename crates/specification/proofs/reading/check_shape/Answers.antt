@@ -15,12 +15,6 @@ use Rattle.specification.proofs.reading.check_shape.Goals as goal
 refuses : {cs : List Check} {a : Answer} {n : ℕ} {P : Type 0} → a ≡ record { number = suc n; place = 0 } → Judged cs Passed (record { number = suc n; place = 0 }) → Judged cs Passed a × (a.number ≡ 0 → P)
 refuses {cs} e j = (subst (Judged cs Passed) (sym e) j, λ z. absurd (omega (arith, ap (λ a. a.number) e)))
 
--- past the second test refusal 1 does not apply
-well : (c : goal.Else-not-measured) → WellFormed c.args.file.now
-well c =
-    let f = c.formed.ensures.holds c.if-not-formed.false in
-    record { headed = f.0; entries = f.1; measured = (c.measured.ensures _ f.0 c.bodies_of-b.ensures).holds c.if-not-measured.false }
-
 pub returns-then-not-formed : goal.returns-then-not-formed
 returns-then-not-formed c = refuses c.misshapen.ensures (halt (whole (λ w. c.formed.ensures.fails c.if-not-formed.true (w.headed, w.entries))))
 
@@ -30,14 +24,14 @@ returns-then-not-measured c =
 
 pub returns-then-not-sized : goal.returns-then-not-sized
 returns-then-not-sized c = 
-    refuses c.misshapen-then-not-sized.ensures (pass (meets (well c.before.before.before.before)) (halt (whole (c.sized.ensures.fails c.if-not-sized.true))))
+    refuses c.misshapen-then-not-sized.ensures (pass (meets (let well : WellFormed c.args.file.now = let f = c.formed.ensures.holds c.if-not-formed.false in record { headed = f.0; entries = f.1; measured = (c.measured.ensures _ f.0 c.bodies_of-b.ensures).holds c.if-not-measured.false } in well)) (halt (whole (c.sized.ensures.fails c.if-not-sized.true))))
 
 pub couples-requires : goal.couples-requires
 couples-requires c = subst Ranges (sym c.sizes_of-z.ensures) (c.sized.ensures.holds c.if-not-sized.false).ranges
 
 pub returns : goal.returns
 returns c = 
-    let f = well c.before.before.before.before.before in
+    let f = (let well : WellFormed c.args.file.now = let f = c.formed.ensures.holds c.if-not-formed.false in record { headed = f.0; entries = f.1; measured = (c.measured.ensures _ f.0 c.bodies_of-b.ensures).holds c.if-not-measured.false } in well) in
     let s = c.sized.ensures.holds c.if-not-sized.false in
     let a = c.args in
     let room = subst (λ z. Judged (room_checks (record { needed = couples z; has = a.table }) (record { needed = z.states; has = a.words }) (record { needed = z.evolutions; has = a.records })) Passed c.check_rooms-answer.result) c.sizes_of-z.ensures (rw c.couples.ensures at c.check_rooms-answer.ensures) in
@@ -47,7 +41,7 @@ pub bodies_of-b-requires : goal.bodies_of-b-requires
 bodies_of-b-requires c = c.formed.ensures.holds c.if-not-formed.false
 
 pub sizes_of-z-requires : goal.sizes_of-z-requires
-sizes_of-z-requires c = (well c, c.bodies_of-b.ensures)
+sizes_of-z-requires c = ((let well : WellFormed c.args.file.now = let f = c.formed.ensures.holds c.if-not-formed.false in record { headed = f.0; entries = f.1; measured = (c.measured.ensures _ f.0 c.bodies_of-b.ensures).holds c.if-not-measured.false } in well), c.bodies_of-b.ensures)
 
 pub sized-requires : goal.sized-requires
-sized-requires c = (well c.before, c.bodies_of-b.ensures, c.sizes_of-z.ensures)
+sized-requires c = ((let well : WellFormed c.args.file.now = let f = c.formed.ensures.holds c.if-not-formed.false in record { headed = f.0; entries = f.1; measured = (c.measured.ensures _ f.0 c.bodies_of-b.ensures).holds c.if-not-measured.false } in well), c.bodies_of-b.ensures, c.sizes_of-z.ensures)

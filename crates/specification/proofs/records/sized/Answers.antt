@@ -38,15 +38,11 @@ module _ {file : List ℕ} {b : Bodies} {z : Sizes} (p : WellFormed file × Deco
   inside : get_or b.length 1 0 ≡ 3 * z.states → record_at z (records z) ≤ length file
   inside e = let o = laid_out file p.0 in omega (arith, o.1, o.2, long 1 (omega arith), ap (λ z. z.evolutions) p.2, ap (λ z. z.first) p.2)
 
--- past the first test the sizes are in range
-in-ranges : (c : goal.Else-not-in_range) → Ranges c.args.z
-in-ranges c = c.in_range.ensures.holds c.if-not-in_range.false
-
 pub returns-then-not-in_range : goal.returns-then-not-in_range
 returns-then-not-in_range c = it_fails λ e. c.in_range.ensures.fails c.if-not-in_range.true (subst Ranges (sym c.requires.2) e.ranges)
 
 pub overflow_mul-z : goal.overflow_mul-z
-overflow_mul-z c = omega (arith, (in-ranges c.before.before).few_states)
+overflow_mul-z c = omega (arith, (let in-ranges : Ranges c.args.z = c.in_range.ensures.holds c.if-not-in_range.false in in-ranges).few_states)
 
 pub returns-then-b-z : goal.returns-then-b-z
 returns-then-b-z c = it_fails λ e. omega (arith, e.states, states-are c.requires, long c.requires 1 (omega arith))
@@ -58,7 +54,7 @@ pub returns-then-texts_sum-ne0 : goal.returns-then-texts_sum-ne0
 returns-then-texts_sum-ne0 c = it_fails λ e. omega (arith, sum_none _ _ e.empty, empty-are c.requires)
 
 pub overflow_add-z : goal.overflow_add-z
-overflow_add-z c = omega (arith, (in-ranges c.before.before.before.before.before.before).few_states, (in-ranges c.before.before.before.before.before.before).few_evolutions)
+overflow_add-z c = omega (arith, (let in-ranges : Ranges c.args.z = c.in_range.ensures.holds c.if-not-in_range.false in in-ranges).few_states, (let in-ranges : Ranges c.args.z = c.in_range.ensures.holds c.if-not-in_range.false in in-ranges).few_evolutions)
 
 pub texts_sum-requires-2 : goal.texts_sum-requires-2
 texts_sum-requires-2 c = omega (arith, inside c.requires c.if-b-z.false, c.requires.0.headed.few)
@@ -76,7 +72,7 @@ returns c =
     decides_map
     (λ e.
     record {
-      ranges = subst Ranges p.2 (in-ranges c.before.before.before.before.before.before.before.before.before.before);
+      ranges = subst Ranges p.2 (let in-ranges : Ranges c.args.z = c.in_range.ensures.holds c.if-not-in_range.false in in-ranges);
       states = omega (arith, c.if-b-z.false, states-are p, long p 1 (omega arith));
       empty = λ s l. omega (arith, c.if-texts_sum-ne0.false, empty-are p, sum_below (text_length c.args.file.now (sizes_of c.args.file.now)) s (sizes_of c.args.file.now).worded l);
       texts = omega (arith, c.if-texts_sum-b.false, sum_is p, long p 3 (omega arith));
