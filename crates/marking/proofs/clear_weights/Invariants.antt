@@ -6,7 +6,7 @@ use Rattle.several.specs.Weights.{unweighed}
 use Rattle.marking.proofs.clear_weights.Given as goal
 
 abbrev pub invariant-loop-c : goal.invariant-loop-c
-invariant-loop-c l = (l.c ≤ l.count) × (l.count ≡ length l.initial.weights) × Filled l.c (λ l.c x. x ≡ unweighed) l.initial.weights l.weights
+invariant-loop-c l = (l.c ≤ l.count) × (l.count ≡ length l.initial.weights) × Filled l.c (λ p x. x ≡ unweighed) l.initial.weights l.weights
 
 abbrev pub decreases-loop-c : goal.decreases-loop-c
 decreases-loop-c l = l.count - l.c
