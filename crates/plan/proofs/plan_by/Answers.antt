@@ -18,7 +18,7 @@ overflow_mul-frame c =
 pub plan_marked-requires : goal.plan_marked-requires
 plan_marked-requires c =
     let (y, e) = ready c.mark_parents-marked.ensures refl refl c.if-marked-ne0.false c.settings-size.ensures.few.0 in
-    rw e ((room y, y.weights_long), run_short_lem y)
+    rw e record { room = (room y, y.weights_long); by_index = run_short_lem y }
 
 pub returns : goal.returns
 returns c =

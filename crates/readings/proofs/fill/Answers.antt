@@ -35,9 +35,9 @@ loop-i-preserved c =
       omega arith,
       omega arith,
       omega arith,
-      rw (r.0, e) (moves ok _ _ (moves ok _ _ c.loop-i.invariant.3 l) l),
-      rw r.1 (simp length-set (simp length-set at c.loop-i.invariant.4)),
-      write_more (specified (machine_of a.frame a.table.now) (λ (k : ℕ). get_or a.words.now k 0)) a.run.now c.loop-i.readings c.loop-i.s c.loop-i.p c.loop-i.i c.loop-i-test.true e r.0 r.1 ∙ c.loop-i.invariant.5,
+      rw (r.state, e) (moves ok _ _ (moves ok _ _ c.loop-i.invariant.3 l) l),
+      rw r.read (simp length-set (simp length-set at c.loop-i.invariant.4)),
+      write_more (specified (machine_of a.frame a.table.now) (λ (k : ℕ). get_or a.words.now k 0)) a.run.now c.loop-i.readings c.loop-i.s c.loop-i.p c.loop-i.i c.loop-i-test.true e r.state r.read ∙ c.loop-i.invariant.5,
     )
 
 pub shape_of-readings : goal.shape_of-readings

@@ -8,16 +8,16 @@ use Rattle.shorten.proofs.Keeping.{keeping_start, same_length, keeping_ahead, ke
 use Rattle.shorten.proofs.keep.Goals as goal
 
 pub loop-at-init : goal.loop-at-init
-loop-at-init c = let p = c.requires in keeping_start p.0.0.room p.0.1 p.1.0 p.1.1
+loop-at-init c = let p = c.requires in keeping_start p.ground.0.room p.ground.1 p.tells.0 p.tells.1
 
 pub keep_one-to-requires : goal.keep_one-to-requires
-keep_one-to-requires c = 
+keep_one-to-requires c =
     let k = c.loop-at.invariant in
     let h = (let here : let a = c.args in let l = c.loop-at in First (machine_of a.frame a.table.now) l.plan l.at (settings_in l.at c.run_end-end.result l.plan) c.run_end-end.result = first_run (keeping_ahead c.loop-at.invariant) c.loop-at-test.true c.run_end-end.ensures in here) in
     record { ground = (record { checked = c.requires.ground.0.checked; room = rw k.as_long k.room }, h.run); few = (rw (same_length k) k.few, k.low, omega (arith, h.at.ends), h.at.within) }
 
 pub overflow_add-to : goal.overflow_add-to
-overflow_add-to c = 
+overflow_add-to c =
     let n = keeping_turn c.loop-at.invariant (let here : let a = c.args in let l = c.loop-at in First (machine_of a.frame a.table.now) l.plan l.at (settings_in l.at c.run_end-end.result l.plan) c.run_end-end.result = first_run (keeping_ahead c.loop-at.invariant) c.loop-at-test.true c.run_end-end.ensures in here) c.requires.ground.0.checked.sound c.keep_one-to.ensures in
     omega (arith, n.low, n.within)
 

@@ -14,16 +14,16 @@ change-visited-requires c = (c.requires.ground.checked, c.loop-i.invariant.state
 
 pub returns-then-marks-entered : goal.returns-then-marks-entered
 returns-then-marks-entered c = let b = c.before.before in
-    reaching_entered b.before.before.before.loop.invariant b.before.before.loop-test.true b.before.setting.ensures.0 b.change.ensures c.if-marks-entered.true
+    reaching_entered b.before.before.before.loop-i.invariant b.before.before.loop-test.true b.before.setting.ensures.0 b.change.ensures c.if-marks-entered.true
 
 pub returns-then-marks-moved : goal.returns-then-marks-moved
 returns-then-marks-moved c = let b = c.before.before.before.before in
-    reaching_moved b.before.before.before.loop.invariant b.before.before.loop-test.true b.before.setting.ensures.0 b.change.ensures c.if-marks-moved.true
+    reaching_moved b.before.before.before.loop-i.invariant b.before.before.loop-test.true b.before.setting.ensures.0 b.change.ensures c.if-marks-moved.true
 
 pub loop-i-preserved : goal.loop-i-preserved
 loop-i-preserved c =
     let b = c.before.before.before.before in
-    let l = b.before.before.before.loop in
+    let l = b.before.before.before.loop-i in
     reaching_more l.invariant b.before.before.loop-test.true b.before.setting.ensures.0 b.change.ensures
     (next_state b.before.before.before.before.before.before.before.requires.ground l.invariant.state (let below : b.setting.result < 2 ^ b.args.frame.inputs = rw b.setting.ensures.0 (b.requires.below b.loop-i.i b.loop-i-test.true) in below) b.change.ensures)
     (omega (arith, c.if-marks-entered.false)) (omega (arith, c.if-marks-moved.false))

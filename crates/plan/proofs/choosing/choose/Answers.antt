@@ -6,26 +6,26 @@ use Rattle.plan.proofs.Turns.{chosen_none, chosen_more}
 use Rattle.plan.proofs.choosing.choose.Goals as goal
 
 pub loop-c-init : goal.loop-c-init
-loop-c-init c = 
+loop-c-init c =
     let a = c.args in
     (omega arith, refl, refl, chosen_none a.several a.table.now a.parents.now a.weights.now a.size a.visited.now a.chosen.now)
 
 pub choose_one-bytes-requires : goal.choose_one-bytes-requires
-choose_one-bytes-requires c = 
+choose_one-bytes-requires c =
     let p = c.requires in
     let l = c.loop-c in
-    record { room_for = record { total = c.args.couples; room = rw l.invariant.1 p.0; below = c.loop-c-test.true }; c_in_bounds = omega (arith, l.invariant.2, p.1) }
+    record { room_for = record { total = c.args.couples; room = rw l.invariant.1 p.room; below = c.loop-c-test.true }; c_in_bounds = omega (arith, l.invariant.2, p.couples_in_bounds) }
 
 pub overflow_add-bytes : goal.overflow_add-bytes
 overflow_add-bytes c = omega (arith, c.loop-c.invariant.3.bytes_few, c.choose_one-bytes.ensures.bytes_few, c.requires.couples_in_bounds)
 
 pub loop-c-preserved : goal.loop-c-preserved
-loop-c-preserved c = 
+loop-c-preserved c =
     let a = c.args in
     (omega arith, omega arith, omega arith, chosen_more a.several a.table.now a.parents.now a.weights.now a.size c.loop-c.invariant.3 c.choose_one-bytes.ensures)
 
 pub returns : goal.returns
-returns c = 
+returns c =
     let e : c.loop-c.c ≡ c.args.couples = omega arith in
     rw e at c.loop-c.invariant.3
 

@@ -21,7 +21,7 @@ store_chosen-at-requires c =
     let p = c.requires in
     let l = c.loop-c in
     let h = c.loop-c-test.true in
-    let fit = pieces_fit a.several a.parents.now a.weights.now a.size a.chosen.now a.couples l.c h in record { in_tree = record { total = a.couples; tree = p.0; below = h }; c_in_bounds = omega (arith, p.1.0.weights_long, p.1.0.flags_long); extra_bound = p.1.0.short l.c h; c_in_bounds_2 = rw (length_rest l.out l.at) (omega (arith, fit, l.invariant.2.count, p.1.1)) }
+    let fit = pieces_fit a.several a.parents.now a.weights.now a.size a.chosen.now a.couples l.c h in record { in_tree = record { total = a.couples; tree = p.tree; below = h }; c_in_bounds = omega (arith, p.flags.weights_long, p.flags.flags_long); extra_bound = p.flags.short l.c h; c_in_bounds_2 = rw (length_rest l.out l.at) (omega (arith, fit, l.invariant.2.count, p.couples_in_bounds)) }
 
 pub overflow_add-at : goal.overflow_add-at
 overflow_add-at c =
