@@ -54,17 +54,17 @@ module _ {m : Machine} {W P : List ℕ} (x : Told m W P) where
   chain c n = settings P (size m) c n
 
   -- the flags of the couples that the run to c visits are put up
-  noted_run_lem : {Q : Type 0} (r c : ℕ) → Away m c r → (F : List Bool) (d : ℕ) → d < length F → Decides Q (get_or F d false)
+  noted_run_lem : (r c : ℕ) → Away m c r → (F : List Bool) (d : ℕ) → d < length F → {Q : Type 0} → Decides Q (get_or F d false)
       → Decides (In d (visits m (chain c (suc r))) ⊎ Q) (get_or (noted_run m.table P (size m) c r F) d false)
   unfolding noted_run noted_change
-  noted_run_lem {Q} zero c y F d h q = rw (visits_first x c y) (decides_map to of (set_decides F c d h q))
+  noted_run_lem zero c y F d h {Q} q = rw (visits_first x c y) (decides_map to of (set_decides F c d h q))
     where
       to : (d ≡ c) ⊎ Q → In d (c ∷ []) ⊎ Q
       to i = ⊎_elim (λ e. inl (inl e)) inr i
 
       of : In d (c ∷ []) ⊎ Q → (d ≡ c) ⊎ Q
       of i = ⊎_elim (λ j. ⊎_elim inl absurd j) inr i
-  noted_run_lem {Q} (suc r) c y F d h q =
+  noted_run_lem (suc r) c y F d h {Q} q =
       rw (visits_last x r c y) (decides_map to of (noted_run_lem r p (chain_back x c r y).1 (set (set F a true) b true) d (simp length-set h) (set_decides (set F a true) b d (simp length-set h) (set_decides F a d h q))))
     where
       p : ℕ

@@ -16,13 +16,13 @@ use Rattle.shorten.specs.Shortening.Shortens.{ends, out, stays}
 front_in : (kept p q : List (List ℕ)) → ((vs : List ℕ) → In vs p → In vs q) → (vs : List ℕ) → In vs (kept ++ p) → In vs (kept ++ q)
 front_in kept p q f vs i = ⊎_elim (in_front vs kept q) (λ j. in_back vs kept q (f vs j)) (in_either vs kept p i)
 
-module _ {m : Machine} where
-  -- more runs visit more
-  pub visited_by : {c : ℕ} (p q : List (List ℕ)) → ((vs : List ℕ) → In vs p → In vs q) → VisitedBy m c p → VisitedBy m c q
-  visited_by p q f (vs, i, j) = (vs, f vs i, j)
+-- more runs visit more
+pub visited_by : (m : Machine) {c : ℕ} (p q : List (List ℕ)) → ((vs : List ℕ) → In vs p → In vs q) → VisitedBy m c p → VisitedBy m c q
+visited_by m p q f (vs, i, j) = (vs, f vs i, j)
 
+module _ {m : Machine} where
   superfluous_by : {vs : List ℕ} {p q : List (List ℕ)} → ((ws : List ℕ) → In ws p → In ws q) → Superfluous m vs p → Superfluous m vs q
-  superfluous_by {p = p} {q} f s = record { elsewhere = λ c i. visited_by p q f (s.elsewhere c i) }
+  superfluous_by {p = p} {q} f s = record { elsewhere = λ c i. visited_by m p q f (s.elsewhere c i) }
 
   -- what stays was there
   pub left_in : {kept runs left : List (List ℕ)} → Shortens m kept runs left → (vs : List ℕ) → In vs left → In vs runs
@@ -44,7 +44,7 @@ module _ {m : Machine} where
 
   -- the runs left visit the same couples
   pub same_visits : {runs left : List (List ℕ)} → Shortens m [] runs left → (c : ℕ) → VisitedBy m c left ↔ VisitedBy m c runs
-  same_visits {runs} {left} x c = (visited_by left runs (left_in x), keeps x c)
+  same_visits {runs} {left} x c = (visited_by m left runs (left_in x), keeps x c)
 
   needed : {kept runs left : List (List ℕ)} → Shortens m kept runs left → (before after : List (List ℕ)) (vs : List ℕ) → left ≡ before ++ (vs ∷ after) → Superfluous m vs (kept ++ (before ++ after)) → ⊥
   needed ends before after vs e f = omega (arith, ap length e ∙ length-append before (vs ∷ after))

@@ -15,10 +15,10 @@ use Rattle.bench.proofs.step.Goals as goal
 abbrev Past : Type 0
 Past = lts.Else1 (refused-reads.Asked, refused-reads.Learnt, counted-reads.Asked, counted-reads.Learnt) reads.Pre reads.Post
 
-accepts : (c : Past) → refuses c.before.before.args.log ≡ false
-accepts c = sym c.before.refused.ensures ∙ c.if1.false
+accepts : (c : Past) → refuses c.args.log ≡ false
+accepts c = sym c.refused.ensures ∙ c.if-refused.false
 
-holds : (c : Past) → Taken c.before.before.args.log
+holds : (c : Past) → Taken c.args.log
 holds c = taken _ (accepts c)
 
 pub returns-then-refused : goal.returns-then-refused
@@ -31,19 +31,19 @@ pub counted-after-requires : goal.counted-after-requires
 counted-after-requires c = λ j h. omega (arith, (holds c.before).below, (holds c.before).is.most j h, (holds c.before).is.within)
 
 pub returns-then-expected-seen : goal.returns-then-expected-seen
-returns-then-expected-seen c = when_equal _ _ c.counted-after.ensures (accepts c.before.before.before) c.if-expected-seen.true
+returns-then-expected-seen c = when_equal _ _ c.counted-after.ensures (accepts c.before) c.if-expected-seen.true
 
 pub overflow_add-after-2 : goal.overflow_add-after-2
-overflow_add-after-2 c = let t = holds c.before.before.before in omega (arith, t.below, t.is.within)
+overflow_add-after-2 c = let t = holds c.before in omega (arith, t.below, t.is.within)
 
 pub returns-then-at-eq-ENTRIES : goal.returns-then-at-eq-ENTRIES
-returns-then-at-eq-ENTRIES c = when_full _ _ c.counted-after.ensures (accepts c.before.before.before.before) c.if-expected-seen.false (omega arith)
+returns-then-at-eq-ENTRIES c = when_full _ _ c.counted-after.ensures (accepts c.before) c.if-expected-seen.false (omega arith)
 
 pub bounds-after-at : goal.bounds-after-at
-bounds-after-at c = omega (arith, (holds c.before.before.before.before).is.smaller, c.if-at-eq-ENTRIES.false)
+bounds-after-at c = omega (arith, (holds c.before).is.smaller, c.if-at-eq-ENTRIES.false)
 
 pub overflow_add-after-3 : goal.overflow_add-after-3
-overflow_add-after-3 c = omega (arith, (holds c.before.before.before.before).is.smaller)
+overflow_add-after-3 c = omega (arith, (holds c.before).is.smaller)
 
 pub returns : goal.returns
-returns c = when_stored _ _ c.counted-after.ensures (accepts c.before.before.before.before) c.if-expected-seen.false (element-set-from-reading c)
+returns c = when_stored _ _ c.counted-after.ensures (accepts c.before) c.if-expected-seen.false (element-set-from-reading c)

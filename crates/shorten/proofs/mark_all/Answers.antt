@@ -13,8 +13,7 @@ loop-at-init c = let p = c.requires in all_start p.ground.1 p.by_index
 
 pub mark-requires : goal.mark-requires
 mark-requires c =
-    let a = c.before.before.before.before.before.before.before.before in
-    rw c.loop-at.invariant.as_long (walk_run (settings_in c.loop-at.at c.run_end-end.result a.args.plan.now) a.requires.ground.0 (let here : let a = c.args in First (machine_of a.frame a.table.now) a.plan.now c.loop-at.at (settings_in c.loop-at.at c.run_end-end.result a.plan.now) c.run_end-end.result = first_run c.loop-at.invariant.ahead c.loop-at-test.true c.run_end-end.ensures in here).run)
+    rw c.loop-at.invariant.as_long (walk_run (settings_in c.loop-at.at c.run_end-end.result c.args.plan.now) c.requires.ground.0 (let here : let a = c.args in First (machine_of a.frame a.table.now) a.plan.now c.loop-at.at (settings_in c.loop-at.at c.run_end-end.result a.plan.now) c.run_end-end.result = first_run c.loop-at.invariant.ahead c.loop-at-test.true c.run_end-end.ensures in here).run)
 
 pub overflow_add-at : goal.overflow_add-at
 overflow_add-at c = let h = (let here : let a = c.args in First (machine_of a.frame a.table.now) a.plan.now c.loop-at.at (settings_in c.loop-at.at c.run_end-end.result a.plan.now) c.run_end-end.result = first_run c.loop-at.invariant.ahead c.loop-at-test.true c.run_end-end.ensures in here).at in omega (arith, h.ends, h.within)

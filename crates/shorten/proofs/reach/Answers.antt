@@ -13,19 +13,16 @@ pub change-visited-requires : goal.change-visited-requires
 change-visited-requires c = (c.requires.ground.checked, c.loop-i.invariant.state, (let below : c.setting.result < 2 ^ c.args.frame.inputs = rw c.setting.ensures.0 (c.requires.below c.loop-i.i c.loop-i-test.true) in below))
 
 pub returns-then-marks-entered : goal.returns-then-marks-entered
-returns-then-marks-entered c = let b = c.before.before in
-    reaching_entered b.before.before.before.loop-i.invariant b.before.before.loop-test.true b.before.setting.ensures.0 b.change.ensures c.if-marks-entered.true
+returns-then-marks-entered c = reaching_entered c.loop-i.invariant c.loop-i-test.true c.setting.ensures.0 c.change-visited.ensures c.if-marks-entered.true
 
 pub returns-then-marks-moved : goal.returns-then-marks-moved
-returns-then-marks-moved c = let b = c.before.before.before.before in
-    reaching_moved b.before.before.before.loop-i.invariant b.before.before.loop-test.true b.before.setting.ensures.0 b.change.ensures c.if-marks-moved.true
+returns-then-marks-moved c = reaching_moved c.loop-i.invariant c.loop-i-test.true c.setting.ensures.0 c.change-visited.ensures c.if-marks-moved.true
 
 pub loop-i-preserved : goal.loop-i-preserved
 loop-i-preserved c =
-    let b = c.before.before.before.before in
-    let l = b.before.before.before.loop-i in
-    reaching_more l.invariant b.before.before.loop-test.true b.before.setting.ensures.0 b.change.ensures
-    (next_state b.before.before.before.before.before.before.before.requires.ground l.invariant.state (let below : b.setting.result < 2 ^ b.args.frame.inputs = rw b.setting.ensures.0 (b.requires.below b.loop-i.i b.loop-i-test.true) in below) b.change.ensures)
+    let l = c.loop-i in
+    reaching_more l.invariant c.loop-i-test.true c.setting.ensures.0 c.change-visited.ensures
+    (next_state c.requires.ground l.invariant.state (let below : c.setting.result < 2 ^ c.args.frame.inputs = rw c.setting.ensures.0 (c.requires.below c.loop-i.i c.loop-i-test.true) in below) c.change-visited.ensures)
     (omega (arith, c.if-marks-entered.false)) (omega (arith, c.if-marks-moved.false))
 
 pub returns : goal.returns

@@ -15,23 +15,22 @@ pub reach-kept-requires : goal.reach-kept-requires
 reach-kept-requires c = let p = c.requires in walk_run c.args.run.now p.ground.0 p.ground.1
 
 pub reach-visited-requires : goal.reach-visited-requires
-reach-visited-requires c = rw rest_lent (let rest : let a = c.args in let k = c.reach-kept.result in Walkable (machine_of a.frame a.table.now) (length a.marks.now) k.state (drop k.settings a.run.now) = let a = c.before.before.before.before.before in walk_rest c.reach-kept.result.settings (walk_run a.args.run.now a.requires.ground.0 a.requires.ground.1) c.reach-kept.ensures.state in rest)
+reach-visited-requires c = rw rest_lent (let rest : let a = c.args in let k = c.reach-kept.result in Walkable (machine_of a.frame a.table.now) (length a.marks.now) k.state (drop k.settings a.run.now) = walk_rest c.reach-kept.result.settings (walk_run c.args.run.now c.requires.ground.0 c.requires.ground.1) c.reach-kept.ensures.state in rest)
 
 pub returns-then-visited-run : goal.returns-then-visited-run
 returns-then-visited-run c = let p = c.requires in
     goes (rest_reaches p.ground.1 p.few.0 p.few.1 c.reach-kept.ensures (let second : let a = c.args in let k = c.reach-kept.result in Stops (machine_of a.frame a.table.now) k.state (drop k.settings a.run.now) a.end a.marks.now c.reach-visited.result = rw rest_lent at c.reach-visited.ensures in second) (rw length-drop c.if-visited-run.true))
 
 pub mark-requires : goal.mark-requires
-mark-requires c = rw rest_lent (let rest : let a = c.args in let k = c.reach-kept.result in Walkable (machine_of a.frame a.table.now) (length a.marks.now) k.state (drop k.settings a.run.now) = let a = c.before.before.before.before.before in walk_rest c.reach-kept.result.settings (walk_run a.args.run.now a.requires.ground.0 a.requires.ground.1) c.reach-kept.ensures.state in rest)
+mark-requires c = rw rest_lent (let rest : let a = c.args in let k = c.reach-kept.result in Walkable (machine_of a.frame a.table.now) (length a.marks.now) k.state (drop k.settings a.run.now) = walk_rest c.reach-kept.result.settings (walk_run c.args.run.now c.requires.ground.0 c.requires.ground.1) c.reach-kept.ensures.state in rest)
 
 pub returns : goal.returns
 returns c =
-    let a = c.before.before.before.before.before.before.before.before.before.before.before.before.before.before.before in
-    let p = a.requires in
+    let p = c.requires in
     let k = c.reach-kept.ensures in
     rw (c.mark.ensures, rest_lent)
-    (subst (Stay (machine_of a.args.frame a.args.table.now) a.args.run.now a.args.end a.args.total a.args.marks.now true) (sym (mark_rest p.0.1 p.1.0 p.1.1 k))
-    (stays (rest_fails p.0.1 p.1.0 p.1.1 k (let second : let a = c.args in let k = c.reach-kept.result in Stops (machine_of a.frame a.table.now) k.state (drop k.settings a.run.now) a.end a.marks.now c.reach-visited.result = rw rest_lent at c.reach-visited.ensures in second) (λ e. c.if-visited-run.false (rw length-drop at e)))))
+    (subst (Stay (machine_of c.args.frame c.args.table.now) c.args.run.now c.args.end c.args.total c.args.marks.now true) (sym (mark_rest p.ground.1 p.few.0 p.few.1 k))
+    (stays (rest_fails p.ground.1 p.few.0 p.few.1 k (let second : let a = c.args in let k = c.reach-kept.result in Stops (machine_of a.frame a.table.now) k.state (drop k.settings a.run.now) a.end a.marks.now c.reach-visited.result = rw rest_lent at c.reach-visited.ensures in second) (λ e. c.if-visited-run.false (rw length-drop at e)))))
 
 pub slice_bounds-reach-count : goal.slice_bounds-reach-count
 slice_bounds-reach-count c = let k = c.reach-kept.ensures in omega (arith, k.within)

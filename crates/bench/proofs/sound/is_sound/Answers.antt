@@ -44,14 +44,14 @@ returns-then-total-many c = says_sound c.args.log (it_fails (λ s. omega (arith,
 abbrev Past : Type 0
 Past = lts.Else5 (most-kept-reads.Asked, most-kept-reads.Learnt, all-differ-reads.Asked, all-differ-reads.Learnt, all-within-reads.Asked, all-within-reads.Learnt, total-reads.Asked, total-reads.Learnt, counts-of-reads.Asked, counts-of-reads.Learnt, all-equal-reads.Asked, all-equal-reads.Learnt) reads.Pre reads.Post
 
-past : (c : Past) → let l = c.before.before.before.before.before.before.before.before.before.before.before.before.args.log in
+past : (c : Past) → let l = c.args.log in
     (l.differing ≤ most_entries → Exact l) → Sound l
-past c last = let l = c.before.before.before.before.before.before.before.before.before.before.before.before.args.log in record {
-  smaller = c.before.before.before.before.before.before.before.if1.false ∙ c.before.before.before.before.before.before.before.before.most-kept.ensures;
-  within = c.before.before.before.before.before.before.if2.false;
-  unequal = (decides_unequal l).holds (sym c.before.before.before.before.before.all-differ.ensures ∙ not-false _ c.before.before.before.before.if3.false);
-  most = (decides_most l).holds (sym c.before.before.before.all-within.ensures ∙ not-false _ c.before.before.if4.false);
-  least = omega (arith, c.before.total.ensures, c.if5.false);
+past c last = let l = c.args.log in record {
+  smaller = c.if-kept-most_kept.false ∙ c.most_kept.ensures;
+  within = c.if-readings-differing.false;
+  unequal = (decides_unequal l).holds (sym c.all_differ.ensures ∙ not-false _ c.if-not-all_differ.false);
+  most = (decides_most l).holds (sym c.all_within.ensures ∙ not-false _ c.if-not-all_within.false);
+  least = omega (arith, c.total.ensures, c.if-total-many.false);
   exact = last;
 }
 
@@ -67,4 +67,4 @@ returns c =
     let same : (j : ℕ) → j < most_outputs → get_or c.counts_of.result j 0 ≡ times (kept_of l) j
     = λ j h. ap (λ (ns : List ℕ). get_or ns j 0) c.counts_of.ensures ∙ list_at (times (kept_of l)) most_outputs j h in
     says_sound l (subst (Decides (Sound l)) (sym c.all_equal.ensures)
-    (decides_map (λ x. past c.before.before.before (λ h. x)) (λ s. s.exact c.if-many-gt-ENTRIES.false) (decides_exact l (λ j. get_or c.counts_of.result j 0) same)))
+    (decides_map (λ x. past c.before (λ h. x)) (λ s. s.exact c.if-many-gt-ENTRIES.false) (decides_exact l (λ j. get_or c.counts_of.result j 0) same)))
