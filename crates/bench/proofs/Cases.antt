@@ -1,4 +1,4 @@
--- What an update comes to, by the tests of the log and the words: the four cases of `updateOf`.
+-- What an update comes to, by the tests of the log and the words: the four cases of `update_of`.
 use Prim.Native.Nat.{ℕ, ◌+◌, ◌≤◌, ◌<◌}
 use native.Mathlib.Nat.{add-zero}
 use mathlib.Core.Path.{◌≡◌}

@@ -1,4 +1,4 @@
--- From a fresh log, any list of updates leaves the log of its history. The argument: `logOf` is the log that accepted readings make; an accepted update of it is that of one reading more, and so
+-- From a fresh log, any list of updates leaves the log of its history. The argument: `log_of` is the log that accepted readings make; an accepted update of it is that of one reading more, and so
 -- sound if it was, and a refused one is itself.
 use Prim.Native.Nat.{ℕ, zero, suc, ◌+◌, ◌≤◌, ◌<◌, min}
 use native.Mathlib.Omega.{arith}

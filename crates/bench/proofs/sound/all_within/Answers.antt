@@ -1,8 +1,6 @@
 -- `bench::sound::all_within` meets its contract: below j no count is above the differing readings.
 use borrow.Author.Rules.{rules}
 use native.Mathlib.Omega.{arith}
-use mathlib.Core.Bool.{true}
-use Prim.Native.Nat.{◌-◌}
 use borrow.Author.Count.{below_none, below_more}
 use borrow.Author.Tests.{le-leb, lt-leb}
 use Rattle.basics.specs.Words.{most_outputs}
