@@ -3,7 +3,6 @@
 use borrow.Author.Rules.{rules}
 use native.Mathlib.Omega.{arith}
 use mathlib.Core.Path.{◌≡◌, refl, sym, ap, subst, ◌∙◌}
-use mathlib.Core.Logic.{⊎_elim}
 use Prim.Native.Nat.{◌+◌, ◌*◌, ◌-◌, ◌<◌}
 use lib.Arith.{digits_lt}
 use Rattle.verdict.specs.Checks.{Finds, at}
@@ -14,6 +13,7 @@ use Rattle.specification.specs.Rules.{leads_to}
 use Rattle.specification.specs.inner.Private.{rest_of}
 use Rattle.specification.proofs.Scan.{Tally, Applies, Begins, begins, tally_start, tally_skip, tally_past, tally_take, tally_two, two_fire, leads_away, tally_all, tally_at, tally_noted, no_two, onward_start, onward_more}
 use Rattle.specification.proofs.rules.fill_moves.Goals as goal
+use Rattle.specification.proofs.rules.fill_moves.Goals.{then-rule_holds+else-to-rest, else-rule_holds}
 
 pub search-init : goal.search-init
 search-init c = (search rules, search rules, unseen_at unseen_start (omega arith), filled_at (filled_none _) (omega arith))
@@ -46,10 +46,9 @@ pub loop-r-preserved : goal.loop-r-preserved
 loop-r-preserved c = 
     let f = c.requires.1.at c.loop-r.r (omega arith) in
     let is = c.loop-r.invariant.1 (omega arith) in
-    let seen : Tally (Applies c.args.file.now c.args.z c.search.s c.loop-v.v) (leads_to c.args.file.now c.args.z) (rest_of c.args.z.worded c.search.s) (c.loop-r.r + 1) c.if-rule_holds.to = ⊎_elim
-    (λ w. tally_at (tally_take c.loop-r.invariant.3 (let n = w.1 in omega (arith, c.rest_of-rest.ensures)) (leads_away c.requires.0.laid.ranges.few_states c.requires.5 (omega arith) is c.loop-r.invariant.4 (c.requires.2 c.loop-r.r (omega arith))) (record { below = omega arith; rule = is; worded = c.loop-r.invariant.4; holds = c.rule_holds.ensures.holds w.0.taken })) refl (w.3 ∙ w.2.ensures))
-    (λ w. tally_at (tally_skip c.loop-r.invariant.3 (λ f. c.rule_holds.ensures.fails w.0.left f.holds)) refl w.1)
-    c.if-rule_holds.branch in
+    let seen : Tally (Applies c.args.file.now c.args.z c.search.s c.loop-v.v) (leads_to c.args.file.now c.args.z) (rest_of c.args.z.worded c.search.s) (c.loop-r.r + 1) c.if-rule_holds.to = elim c.if-rule_holds.branch [
+      then-rule_holds+else-to-rest w ↦ tally_at (tally_take c.loop-r.invariant.3 (let n = w.if-to-rest.false in omega (arith, c.rest_of-rest.ensures)) (leads_away c.requires.0.laid.ranges.few_states c.requires.5 (omega arith) is c.loop-r.invariant.4 (c.requires.2 c.loop-r.r (omega arith))) (record { below = omega arith; rule = is; worded = c.loop-r.invariant.4; holds = c.rule_holds.ensures.holds w.if-rule_holds.true })) refl (w.to-is ∙ w.leads_to-to.ensures)
+    | else-rule_holds w ↦ tally_at (tally_skip c.loop-r.invariant.3 (λ f. c.rule_holds.ensures.fails w.if-rule_holds.false f.holds)) refl w.to-is ] in
     (omega (arith, f.upto), λ h. f.same (omega arith) ∙ is, search rules, tally_past seen (omega (arith, f.after)) (λ q h l g. f.between q h (omega arith) (g.rule ∙ sym is)), omega (arith, f.after, c.loop-r.invariant.4))
 
 pub bounds-table-p : goal.bounds-table-p
