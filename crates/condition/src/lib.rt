@@ -6,7 +6,7 @@
 
 ghost use Rattle.std.specs.Prelude.{ℕ, ◌-◌};
 ghost use Rattle.verdict.specs.Checks.{Decides};
-ghost use Rattle.condition.specs.Grammar.{condition as conditionLevel, term as termLevel, factor as factorLevel};
+ghost use Rattle.condition.specs.Grammar.{condition as condition_level, term as term_level, factor as factor_level};
 ghost use Rattle.condition.specs.Condition.{parentheses, Says, Holds};
 ghost use Rattle.condition.specs.inner.Parts.{code, At, Skipped, Found};
 
@@ -64,9 +64,9 @@ pub fn holds(text: &[u8], inputs: usize, setting: usize) -> bool
 }
 
 // Terms joined by `+`.
-#[cycle(bare_condition_enclosed_factor_term)]
+#[cycle(levels)]
 fn condition(text: &[u8], at: usize, inputs: usize, setting: usize, opened: usize) -> Part
-    ensures { Found conditionLevel inputs setting (parentheses - opened) text.now at result }
+    ensures { Found condition_level inputs setting (parentheses - opened) text.now at result }
 {
     let mut any = false;
     let mut from = at;
@@ -88,9 +88,9 @@ fn condition(text: &[u8], at: usize, inputs: usize, setting: usize, opened: usiz
 }
 
 // Factors joined by `.`.
-#[cycle(bare_condition_enclosed_factor_term)]
+#[cycle(levels)]
 fn term(text: &[u8], at: usize, inputs: usize, setting: usize, opened: usize) -> Part
-    ensures { Found termLevel inputs setting (parentheses - opened) text.now at result }
+    ensures { Found term_level inputs setting (parentheses - opened) text.now at result }
 {
     let mut all = true;
     let mut from = at;
@@ -112,9 +112,9 @@ fn term(text: &[u8], at: usize, inputs: usize, setting: usize, opened: usize) ->
 }
 
 // Any number of `!`, and then a factor that begins with none.
-#[cycle(bare_condition_enclosed_factor_term)]
+#[cycle(levels)]
 fn factor(text: &[u8], at: usize, inputs: usize, setting: usize, opened: usize) -> Part
-    ensures { Found factorLevel inputs setting (parentheses - opened) text.now at result }
+    ensures { Found factor_level inputs setting (parentheses - opened) text.now at result }
 {
     let before = bangs(text, at);
     let from = before.end;
@@ -140,10 +140,10 @@ fn bangs(text: &[u8], at: usize) -> Negation
 }
 
 // A factor that begins with no `!`.
-#[cycle(bare_condition_enclosed_factor_term)]
+#[cycle(levels)]
 fn bare(text: &[u8], at: usize, inputs: usize, setting: usize, opened: usize) -> Part
     requires { At text.now at (code "!") → ⊥ }
-    ensures { Found factorLevel inputs setting (parentheses - opened) text.now at result }
+    ensures { Found factor_level inputs setting (parentheses - opened) text.now at result }
 {
     if stands(text, at, b'(') {
         return enclosed(text, at, inputs, setting, opened);
@@ -152,10 +152,10 @@ fn bare(text: &[u8], at: usize, inputs: usize, setting: usize, opened: usize) ->
 }
 
 // A condition in parentheses.
-#[cycle(bare_condition_enclosed_factor_term)]
+#[cycle(levels)]
 fn enclosed(text: &[u8], at: usize, inputs: usize, setting: usize, opened: usize) -> Part
     requires { At text.now at (code "(") }
-    ensures { Found factorLevel inputs setting (parentheses - opened) text.now at result }
+    ensures { Found factor_level inputs setting (parentheses - opened) text.now at result }
 {
     if PARENTHESES <= opened {
         return Part::Bad(at);
@@ -175,7 +175,7 @@ fn enclosed(text: &[u8], at: usize, inputs: usize, setting: usize, opened: usize
 // `0`, `1`, or an input letter; input a weighs 1, b 2, and so on.
 fn single(text: &[u8], at: usize, inputs: usize, setting: usize) -> Part
     requires { (At text.now at (code "!") → ⊥) × (At text.now at (code "(") → ⊥) }
-    ensures { (d : ℕ) → Found factorLevel inputs setting d text.now at result }
+    ensures { (d : ℕ) → Found factor_level inputs setting d text.now at result }
 {
     if text.len() <= at {
         return Part::Bad(at);

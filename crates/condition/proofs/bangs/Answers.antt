@@ -1,5 +1,4 @@
 -- `condition::bangs` meets its contract. The invariant is what it ensures of `negates` and `end`: one more `!` keeps it.
-use Prim.Native.Nat.{◌-◌}
 use native.Mathlib.Omega.{arith}
 use Rattle.condition.proofs.Readings.{bang_none, bang_more}
 use Rattle.condition.proofs.bangs.Goals as goal

@@ -1,3 +1,4 @@
+-- `condition::bangs` ends. The invariant is what it ensures of the `!` passed so far, and the measure what is left of the text.
 use Prim.Native.Nat.{◌-◌}
 use lib.ListN.{length}
 use Rattle.condition.specs.inner.Parts.{Skipped}
