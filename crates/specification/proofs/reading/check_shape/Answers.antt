@@ -31,7 +31,7 @@ pub couples-requires : goal.couples-requires
 couples-requires c = subst Ranges (sym c.sizes_of-z.ensures) (c.sized.ensures.holds c.if-not-sized.false).ranges
 
 pub returns : goal.returns
-returns c = 
+returns c =
     let f = (let well : WellFormed c.args.file.now = let f = c.formed.ensures.holds c.if-not-formed.false in record { headed = f.0; entries = f.1; measured = (c.measured.ensures _ f.0 c.bodies_of-b.ensures).holds c.if-not-measured.false } in well) in
     let s = c.sized.ensures.holds c.if-not-sized.false in
     let a = c.args in

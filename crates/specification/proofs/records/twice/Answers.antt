@@ -19,9 +19,14 @@ returns-then-target-to c =
     })
 
 pub loop-q-preserved : goal.loop-q-preserved
-loop-q-preserved c = (search rules, search rules, below_more _ _ c.loop-q.invariant.2 (λ h. elim c.if-source-from.branch [
-      then-source-from+else-target-to w ↦ w.if-target-to.false (omega (arith, h.2, w.target.ensures.0))
-    | else-source-from w ↦ w.if-source-from.false (omega (arith, h.1)) ]))
+loop-q-preserved c = (
+  search rules,
+  search rules,
+  below_more _ _ c.loop-q.invariant.2 (λ h. elim c.if-source-from.branch [
+    | then-source-from+else-target-to w ↦ w.if-target-to.false (omega (arith, h.2, w.target.ensures.0))
+    | else-source-from w ↦ w.if-source-from.false (omega (arith, h.1))
+  ]),
+)
 
 pub returns : goal.returns
 returns c = it_fails λ w. c.loop-q.invariant.2 w.earlier (omega (arith, w.before)) (w.evolved.after, omega (arith, w.from), omega (arith, w.to))

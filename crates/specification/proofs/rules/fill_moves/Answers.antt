@@ -34,7 +34,7 @@ pub overflow_add-p : goal.overflow_add-p
 overflow_add-p c = omega (arith, couples_bound c.search.s c.args.m (omega arith) (omega arith))
 
 pub loop-r-init : goal.loop-r-init
-loop-r-init c = 
+loop-r-init c =
     let b = subst (Begins c.args.file.now c.args.z c.search.s) (sym c.first_rule-first.ensures) (begins (omega arith) c.requires.0.laid.worded c.requires.1) in
     (omega (arith, b.upto), λ h. b.same (omega arith), search rules, tally_start b c.rest_of-rest.ensures, b.worded)
 
@@ -43,25 +43,26 @@ loop-r-smaller c = omega (arith, (c.requires.1.at c.loop-r.r (omega arith)).afte
 
 -- record r is seen: it is the rule, or does not hold
 pub loop-r-preserved : goal.loop-r-preserved
-loop-r-preserved c = 
+loop-r-preserved c =
     let f = c.requires.1.at c.loop-r.r (omega arith) in
     let is = c.loop-r.invariant.1 (omega arith) in
     let seen : Tally (Applies c.args.file.now c.args.z c.search.s c.loop-v.v) (leads_to c.args.file.now c.args.z) (rest_of c.args.z.worded c.search.s) (c.loop-r.r + 1) c.if-rule_holds.to = elim c.if-rule_holds.branch [
-      then-rule_holds+else-to-rest w ↦ tally_at (tally_take c.loop-r.invariant.3 (let n = w.if-to-rest.false in omega (arith, c.rest_of-rest.ensures)) (leads_away c.requires.0.laid.ranges.few_states c.requires.5 (omega arith) is c.loop-r.invariant.4 (c.requires.2 c.loop-r.r (omega arith))) (record { below = omega arith; rule = is; worded = c.loop-r.invariant.4; holds = c.rule_holds.ensures.holds w.if-rule_holds.true })) refl (w.to-is ∙ w.leads_to-to.ensures)
-    | else-rule_holds w ↦ tally_at (tally_skip c.loop-r.invariant.3 (λ f. c.rule_holds.ensures.fails w.if-rule_holds.false f.holds)) refl w.to-is ] in
+      | then-rule_holds+else-to-rest w ↦ tally_at (tally_take c.loop-r.invariant.3 (let n = w.if-to-rest.false in omega (arith, c.rest_of-rest.ensures)) (leads_away c.requires.0.laid.ranges.few_states c.requires.5 (omega arith) is c.loop-r.invariant.4 (c.requires.2 c.loop-r.r (omega arith))) (record { below = omega arith; rule = is; worded = c.loop-r.invariant.4; holds = c.rule_holds.ensures.holds w.if-rule_holds.true })) refl (w.to-is ∙ w.leads_to-to.ensures)
+      | else-rule_holds w ↦ tally_at (tally_skip c.loop-r.invariant.3 (λ f. c.rule_holds.ensures.fails w.if-rule_holds.false f.holds)) refl w.to-is
+    ] in
     (omega (arith, f.upto), λ h. f.same (omega arith) ∙ is, search rules, tally_past seen (omega (arith, f.after)) (λ q h l g. f.between q h (omega arith) (g.rule ∙ sym is)), omega (arith, f.after, c.loop-r.invariant.4))
 
 pub bounds-table-p : goal.bounds-table-p
 bounds-table-p c = omega (arith, c.loop-v.invariant.3, digits_lt c.search-test.true c.loop-v-test.true)
 
 pub loop-v-preserved : goal.loop-v-preserved
-loop-v-preserved c = 
+loop-v-preserved c =
     let h = c.loop-v-test.true in
     let t = tally_all c.requires.0.laid c.search-test.true c.requires.2 (omega arith) c.loop-r.invariant.3 in
     (search rules, search rules, unseen_at (unseen_more c.loop-v.invariant.2 (no_two h t (omega arith))) (omega arith), search rules, onward_more c.loop-v.invariant.4 (omega (arith, c.loop-v.invariant.3, digits_lt c.search-test.true h)) (tally_noted h t (omega arith)) (omega arith))
 
 pub search-preserved : goal.search-preserved
-search-preserved c = 
+search-preserved c =
     let n = next_state c.args.m c.search.s in
     (search rules, search rules, unseen_at c.loop-v.invariant.2 (omega (arith, n)), filled_at (c.loop-v.invariant.4.since _ c.search.invariant.3) (omega (arith, n)))
 
@@ -69,7 +70,7 @@ pub shape_of-table-after-search : goal.shape_of-table-after-search
 shape_of-table-after-search c = c.search.invariant.3.same_length
 
 pub returns-after-search : goal.returns-after-search
-returns-after-search c = 
+returns-after-search c =
     let i = c.search.invariant in
     let e : c.args.z.states ≡ c.search.s = omega arith in
     record { finds = subst (Finds _) (sym i.1) (unseen_end i.2 (λ p t. subst (λ s. p < s * c.args.m) e (couple_below t.couple))); fills = filled_map (λ k x h y e. y) (filled_at i.3 (ap (λ s. s * c.args.m) (sym e))) }
@@ -78,8 +79,11 @@ pub shape_of-table-then-to-rest : goal.shape_of-table-then-to-rest
 shape_of-table-then-to-rest c = (c.loop-v.invariant.4.since _ c.search.invariant.3).same_length
 
 pub returns-then-to-rest : goal.returns-then-to-rest
-returns-then-to-rest c = 
-    let i = c.loop-r.invariant in record { finds = at (record {
+returns-then-to-rest c =
+    let i = c.loop-r.invariant in record {
+      finds = at (record {
         here = record { couple = record { state = c.search-test.true; setting = c.loop-v-test.true; number = refl }; two = two_fire (tally_two i.3 (λ e. c.if-to-rest.true (e ∙ sym c.rest_of-rest.ensures)) (record { below = omega arith; rule = i.1 (omega arith); worded = i.4; holds = c.rule_holds.ensures.holds c.if-rule_holds.true })); s = _; v = _ };
         first = c.loop-v.invariant.2.none;
-      }); fills = filled_widen (omega (arith, digits_lt c.search-test.true c.loop-v-test.true)) (λ k x e. absurd (at_something e)) (c.loop-v.invariant.4.since _ c.search.invariant.3) }
+      });
+      fills = filled_widen (omega (arith, digits_lt c.search-test.true c.loop-v-test.true)) (λ k x e. absurd (at_something e)) (c.loop-v.invariant.4.since _ c.search.invariant.3);
+    }
