@@ -21,70 +21,72 @@ mod samples;
 mod shorter;
 mod starts;
 
-fn main() {
-    files();
-    log::rows();
-    tables();
-    plans::lamp_plan();
-    plans::gate_runs();
-    plans::expected_readings();
-    plans::wrong_changes();
-    shortened_plans();
-    frames::lamp();
-    frames::gate();
-    frames::files();
-    few_starts();
-    multiple_changes();
+use std::io;
+
+fn main(rt: HostRuntime) -> io::Result<()> {
+    files(&rt)?;
+    log::rows(&rt)?;
+    tables(&rt)?;
+    plans::lamp_plan(&rt)?;
+    plans::gate_runs(&rt)?;
+    plans::expected_readings(&rt)?;
+    plans::wrong_changes(&rt)?;
+    shortened_plans(&rt)?;
+    frames::lamp(&rt)?;
+    frames::gate(&rt)?;
+    frames::files(&rt)?;
+    few_starts(&rt)?;
+    multiple_changes(&rt)
 }
 
 // Conditions and reading a file.
-fn files() {
-    conditions::unread();
-    conditions::letters();
-    conditions::parentheses();
-    conditions::characters();
-    lamps::rows();
-    optional::rows();
-    rests::rows();
-    limits::fewest();
-    limits::most();
-    limits::kinds();
-    limits::longest();
-    records::rows();
+fn files(out: &impl Print) -> io::Result<()> {
+    conditions::unread(out)?;
+    conditions::letters(out)?;
+    conditions::parentheses(out)?;
+    conditions::characters(out)?;
+    lamps::rows(out)?;
+    optional::rows(out)?;
+    rests::rows(out)?;
+    limits::fewest(out)?;
+    limits::most(out)?;
+    limits::kinds(out)?;
+    limits::longest(out)?;
+    records::rows(out)
 }
 
 // Shortening.
-fn shortened_plans() {
-    shorter::lamp();
-    shorter::wrong_plans();
-    shorter::wrong_tables();
-    shorter::gate();
+fn shortened_plans(out: &impl Print) -> io::Result<()> {
+    shorter::lamp(out)?;
+    shorter::wrong_plans(out)?;
+    shorter::wrong_tables(out)?;
+    shorter::gate(out)
 }
 
 // Marking.
-fn tables() {
-    ranks::gate();
-    ranks::table_iv();
-    ranks::wrong_sizes();
-    ranks::wrong_tables();
+fn tables(out: &impl Print) -> io::Result<()> {
+    ranks::gate(out)?;
+    ranks::table_iv(out)?;
+    ranks::wrong_sizes(out)?;
+    ranks::wrong_tables(out)
 }
 
 // Table jobs told of few starts.
-fn few_starts() {
-    starts::gate_ranks();
-    starts::gate_runs();
-    starts::lamp();
+fn few_starts(out: &impl Print) -> io::Result<()> {
+    starts::gate_ranks(out)?;
+    starts::gate_runs(out)?;
+    starts::lamp(out)
 }
 
 // Runs that may change several inputs at once.
-fn multiple_changes() {
-    multi::gate_unmarked();
-    multi::gate_runs();
-    multi::gate_ranks();
-    multi::ruled_gate_runs();
-    apart::lamp();
-    apart::gate();
-    apart::pair();
-    multi::expected_readings();
-    multi::wrong_changes();
+fn multiple_changes(out: &impl Print) -> io::Result<()> {
+    multi::gate_unmarked(out)?;
+    multi::gate_runs(out)?;
+    multi::gate_ranks(out)?;
+    multi::ruled_gate_runs(out)?;
+    apart::lamp(out)?;
+    apart::gate(out)?;
+    apart::pair(out)?;
+    multi::expected_readings(out)?;
+    multi::wrong_changes(out)
 }

@@ -1,15 +1,17 @@
 // Files with a kind 5 or 6: the lamp with bytes changed.
 use crate::lamps::lamps;
+use std::io;
 
-pub(crate) fn rows() {
-    never();
-    starts();
-    both();
+pub(crate) fn rows(out: &impl Print) -> io::Result<()> {
+    never(out)?;
+    starts(out)?;
+    both(out)
 }
 
 // The lamp with a kind 5, `a` where nothing else is said.
-fn never() {
+fn never(out: &impl Print) -> io::Result<()> {
     lamps(
+        out,
         5,
         b"
         kind 5:
@@ -28,12 +30,13 @@ fn never() {
         5 at kind 5 before 6: 41=0 52'+
         12 before 13 by kind 5: 47'0 49'0 52'1
         ",
-    );
+    )
 }
 
 // The lamp with a kind 6 alone, `a` where nothing else is said; state 0 rests at setting 0 alone, state 1 at setting 1.
-fn starts() {
+fn starts(out: &impl Print) -> io::Result<()> {
     lamps(
+        out,
         5,
         b"
         kind 6 that holds everywhere: 25=6 52'1
@@ -46,12 +49,13 @@ fn starts() {
         initial 1: 25=6 33=1 52'1
         initial 1, kind 6 a: 25=6 33=1
         ",
-    );
+    )
 }
 
 // The lamp with the kind 5 `a` and the kind 6 `!a` where nothing else is said.
-fn both() {
+fn both(out: &impl Print) -> io::Result<()> {
     lamps(
+        out,
         6,
         b"
         kinds 5 and 6:
@@ -70,5 +74,5 @@ fn both() {
         5 at kind 6 before 6: 46=0 59'+
         12 before 13 by kind 6: 52'0 54'0 59'1
         ",
-    );
+    )
 }

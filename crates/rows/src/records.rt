@@ -3,49 +3,56 @@ use crate::lines::{end, name, number, word};
 use crate::samples::{LAMP, lamp_file};
 use evolutions::Evolution;
 use specification::EVOLUTIONS;
+use std::io;
 
-pub(crate) fn rows() {
-    name(b"evolutions");
-    settings();
-    beyond();
-    inputs();
-    end();
+pub(crate) fn rows(out: &impl Print) -> io::Result<()> {
+    name(out, b"evolutions")?;
+    settings(out)?;
+    beyond(out)?;
+    inputs(out)?;
+    end(out)
 }
 
 // The evolutions at settings 0 and 1.
-fn settings() {
-    word(b"|");
-    row(LAMP, 0, 1, 0);
-    row(LAMP, 0, 1, 1);
-    row(LAMP, 1, 1, 0);
-    row(LAMP, 1, 1, 1);
+fn settings(out: &impl Print) -> io::Result<()> {
+    word(out, b"|")?;
+    row(out, LAMP, 0, 1, 0)?;
+    row(out, LAMP, 0, 1, 1)?;
+    row(out, LAMP, 1, 1, 0)?;
+    row(out, LAMP, 1, 1, 1)
 }
 
 // One beyond the list, one beyond the records; then both in a file one byte short, where the second ends beyond the file.
-fn beyond() {
-    word(b"|");
-    row(LAMP, 2, 1, 0);
-    row(LAMP, EVOLUTIONS, 1, 0);
-    word(b"|");
-    row(LAMP - 1, 0, 1, 1);
-    row(LAMP - 1, 1, 1, 0);
+fn beyond(out: &impl Print) -> io::Result<()> {
+    word(out, b"|")?;
+    row(out, LAMP, 2, 1, 0)?;
+    row(out, LAMP, EVOLUTIONS, 1, 0)?;
+    word(out, b"|")?;
+    row(out, LAMP - 1, 0, 1, 1)?;
+    row(out, LAMP - 1, 1, 1, 0)
 }
 
 // The first with no inputs and with 9.
-fn inputs() {
-    word(b"|");
-    row(LAMP, 0, 0, 1);
-    row(LAMP, 0, 9, 1);
+fn inputs(out: &impl Print) -> io::Result<()> {
+    word(out, b"|")?;
+    row(out, LAMP, 0, 0, 1)?;
+    row(out, LAMP, 0, 9, 1)
 }
 
 // An evolution asked in so many bytes of the lamp.
-fn row(length: usize, evolution: usize, inputs: usize, setting: usize) {
+fn row(
+    out: &impl Print,
+    length: usize,
+    evolution: usize,
+    inputs: usize,
+    setting: usize,
+) -> io::Result<()> {
     let file = lamp_file();
     let text = lamp_file();
     let mut table = [0u8; 4];
     let mut words = [0u16; 2];
     if text.len() < length {
-        return;
+        return Ok(());
     }
     if asked(
         &file,
@@ -56,9 +63,9 @@ fn row(length: usize, evolution: usize, inputs: usize, setting: usize) {
         inputs,
         setting,
     ) {
-        number(1);
+        number(out, 1)
     } else {
-        number(0);
+        number(out, 0)
     }
 }
 

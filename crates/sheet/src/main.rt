@@ -9,11 +9,12 @@ ghost use Rattle.show.specs.Written.{Writes};
 ghost use Rattle.sheet.specs.Printed.{text_room, SheetOf, PlanText, Prints};
 ghost use Rattle.sheet.specs.inner.Steps.{Within, Whole, Ready};
 
-use libc::{STDIN_FILENO, STDOUT_FILENO};
 use machine::{COUPLES, Frame, STATES};
 use plan::{multi_list, plan};
 use show::{Written, refusal, sheet};
 use specification::read_here;
+use std::io;
+use std::io::Read;
 use verdict::Answer;
 
 // One byte more than a file may have, so that a longer one is noticed.
@@ -26,52 +27,34 @@ const LIST: usize = 65536;
 // Room for every text: the first line, a line for each rank, at most 5 letters for each byte of the plan and 4 for each of the list.
 const TEXT: usize = 46 + 17 * COUPLES + 5 * PLAN + 4 * LIST;
 
-// So many bytes came from standard input, or a read failed.
-#[derive(Clone, Copy)]
-enum Input {
-    Bytes(usize),
-    Failed,
-}
-
-fn main() {
+fn main(rt: HostRuntime) -> io::Result<()> {
     let mut file = [0u8; FILE];
-    let Input::Bytes(length) = read_input(&mut file) else {
-        os::fail(b"standard input");
-        return;
-    };
+    let length = read_input(&mut rt.stdin(), &mut file)?;
     let mut text = [0u8; TEXT];
     let end = write_sheet(&file[0..length], &mut text);
-    if !io::write_all(STDOUT_FILENO, &text[0..end]) {
-        os::fail(b"standard output");
-    }
+    rt.write_all(&text[0..end])
 }
 
-// Reads standard input to its end, or until the buffer is full.
-fn read_input(file: &mut [u8]) -> Input
+// Reads the input to its end, or until the buffer is full, and answers how many bytes came.
+fn read_input(input: &mut impl Read, file: &mut [u8]) -> io::Result<usize>
     ensures { Within result (length file.new) }
 {
     let mut at: usize = 0;
     while at < file.len() {
-        let Input::Bytes(more) = read_more(&mut file[at..]) else {
-            return Input::Failed;
-        };
+        let more = read_more(input, &mut file[at..])?;
         if more == 0 {
-            return Input::Bytes(at);
+            return Ok(at);
         }
         at += more;
     }
-    Input::Bytes(at)
+    Ok(at)
 }
 
-// Reads once into the rest of the buffer.
-fn read_more(rest: &mut [u8]) -> Input
+// Reads once into the rest of the buffer, and answers how many bytes came.
+fn read_more(input: &mut impl Read, rest: &mut [u8]) -> io::Result<usize>
     ensures { Within result (length rest.old) }
 {
-    let got = libc::read(STDIN_FILENO, rest);
-    if got < 0 {
-        return Input::Failed;
-    }
-    Input::Bytes(io::count(got, rest))
+    input.read(rest)
 }
 
 // Writes the text that is printed for a file, and answers how many bytes it has.

@@ -161,13 +161,13 @@ fn print_sheet() {
 
 /// The program `sheet` against this one with the argument `--sheet`.
 fn bench_program(file: &[u8]) {
-    let program = Path::new(env!("CARGO_MANIFEST_DIR")).join("../target/bin/sheet");
+    let program = Path::new(env!("CARGO_MANIFEST_DIR")).join("../crates/sheet/out/sheet");
     if cfg!(not(target_arch = "x86_64")) {
-        println!("program   target/bin/sheet is for x86-64, this machine is not");
+        println!("program   crates/sheet/out/sheet is for x86-64, this machine is not");
         return;
     }
     if !program.exists() {
-        println!("program   target/bin/sheet is missing: run `rt check sheet`");
+        println!("program   crates/sheet/out/sheet is missing: run `rt run` in crates/sheet");
         return;
     }
     let path = std::env::temp_dir().join(format!("mundrefol-bench-{}", process::id()));

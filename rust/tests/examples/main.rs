@@ -1,5 +1,5 @@
-//! The folder `examples/`: its bytes, its expected sheets, the program `target/bin/sheet` on them and
-//! on generated files, also with little stack, and the words of the script `sheet` on refused ones.
+//! The folder `examples/`: its bytes, its expected sheets, the program `sheet` on them and on
+//! generated files, also with little stack, and the words of the script `sheet` on refused ones.
 
 #[path = "../cases/mod.rs"]
 mod cases;
@@ -29,10 +29,10 @@ fn in_folder(name: &str) -> Vec<u8> {
     })
 }
 
-/// The program, which `rt check sheet` leaves for x86-64, with a stack of so many KiB if given.
+/// The program, which `rt run` in `crates/sheet` leaves for x86-64, with a stack of so many KiB if given.
 fn program(stack: Option<usize>) -> Command {
-    let program = root().join("target/bin/sheet");
-    assert!(program.is_file(), "{}: run `rt check sheet` at the root first", program.display());
+    let program = root().join("crates/sheet/out/sheet");
+    assert!(program.is_file(), "{}: run `rt run` in crates/sheet first", program.display());
     let native = cfg!(target_arch = "x86_64");
     let mut command = match stack {
         None if native => return Command::new(program),

@@ -86,8 +86,9 @@ fn root_with(name: &str, program: Option<&str>) -> PathBuf {
     write_executable(&root.join("sheet"), &script);
     write_script(&root.join("rust/emulated/start"), "exec \"$@\"");
     fs::write(root.join("file"), "").expect("the file is written");
+    fs::create_dir_all(root.join("crates/sheet")).expect("the folder is made");
     if let Some(text) = program {
-        write_script(&root.join("target/bin/sheet"), text);
+        write_script(&root.join("crates/sheet/out/sheet"), text);
     }
     root
 }
@@ -127,7 +128,7 @@ fn failing_programs() {
     }
 }
 
-/// Without the program, it is built by `rt check sheet`; without `rt`, or if that fails, status 2.
+/// Without the program, it is built by `rt run` in `crates/sheet`; without `rt`, or if that fails, status 2.
 #[test]
 fn building() {
     let path = |tools: &Path| format!("{}:/usr/bin:/bin", tools.display());
@@ -147,10 +148,10 @@ fn building() {
     let working = root_with("working-rt", None);
     write_script(
         &working.join("tools/rt"),
-        "[ \"$*\" = 'check sheet' ] || exit 1
-mkdir -p target/bin
-printf '#!/bin/sh\\necho REFUSED 1 0\\n' >target/bin/sheet
-chmod +x target/bin/sheet
+        "[ \"$*\" = run ] || exit 1
+mkdir -p out
+printf '#!/bin/sh\\necho REFUSED 1 0\\n' >out/sheet
+chmod +x out/sheet
 echo noise",
     );
     assert_eq!(run(&working), (1, "REFUSED 1 0\n".to_string()));

@@ -1,17 +1,14 @@
 -- What the program's own functions say of the bytes that they moved, and of a machine that can be planned.
-use Rattle.std.specs.Prelude.{◌≡◌, ℕ, ◌≤◌, length}
+use Rattle.std.specs.Prelude.{◌≡◌, ℕ, ◌≤◌, Result, IfOk, length}
 use Rattle.machine.specs.Runs.{Machine, couples, Starts}
 use Rattle.tables.specs.inner.Fits.{Checked}
 use Rattle.show.specs.declared.Written.{Written}
 use Rattle.show.specs.declared.Written.TheVariants.{All, Short}
-use Rattle.sheet.specs.declared.Input.{Input}
-use Rattle.sheet.specs.declared.Input.TheVariants.{Bytes, Failed}
 use Rattle.sheet.specs.Printed.{text_room}
 
 -- no more bytes came than the buffer has
-abbrev pub Within : Input → ℕ → Type 0
-Within (Bytes n) most = n ≤ most
-Within Failed most = Unit {0}
+abbrev pub Within : {E : Type 0} → Result ℕ E → ℕ → Type 0
+Within r most = IfOk r (λ n. n ≤ most)
 
 -- no table job refuses the machine, its table has as many bytes as it has couples, and there is room for its text
 pub record Ready (m : Machine) (room : ℕ) : Type 0 where
