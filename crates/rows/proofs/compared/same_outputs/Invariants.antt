@@ -1,0 +1,10 @@
+-- `rows::compared::same_outputs` is safe and ends: the output counts up to the number of outputs.
+use Prim.Native.Nat.{◌≤◌, ◌-◌}
+use Rattle.basics.specs.Words.{most_outputs}
+use Rattle.rows.proofs.compared.same_outputs.Given as goal
+
+abbrev pub invariant-loop-j : goal.invariant-loop-j
+invariant-loop-j l = l.j ≤ most_outputs
+
+abbrev pub decreases-loop-j : goal.decreases-loop-j
+decreases-loop-j l = most_outputs - l.j
