@@ -6,7 +6,7 @@ use mathlib.Core.List.{List, [], ◌∷◌}
 use lib.Dec.{T as Holds, lit<}
 use lib.ListN.{length, replicate, length-replicate}
 use seplogic.Ra.Ura.{Ura}
-use seplogic.Ra.TreeShare.{full_share}
+use base.Fraction.{full_share}
 use mir.Syntax.{ty_array}
 use mir.Val.{Val, WT, has_ty}
 use base.Logic.{ent, ex}

@@ -6,7 +6,7 @@ pub use mathlib.Core.List.{List, [], ◌++◌, ◌∷◌}
 pub use lib.Dec.{lit<, ltb, ltb→lt, nltb→le}
 pub use lib.ListN.{get_or-eq_default as List·getD-eq-default, drop as drop-list, get_or, length}
 pub use seplogic.Ra.Ura.{Ura}
-pub use seplogic.Ra.TreeShare.{full_share}
+pub use base.Fraction.{full_share}
 pub use mir.Syntax.{Ty, imm, mut, named, ty_bool, ty_int, ty_ptr, ty_ref, ty_unit, w64, w8}
 pub use mir.Val.{Val, vbool, vint, vptr, vunit}
 pub use base.Logic.{SProp, emp, ent, ex_e, fst∗, id⊢, sep, snd∗, via}

@@ -4,7 +4,7 @@ use lib.ListN.{length}
 use Rattle.rows.proofs.lamps.lamps.Given as goal
 
 abbrev pub invariant-loop-at : goal.invariant-loop-at
-invariant-loop-at l = l.at ≤ length l.rows + 1
+invariant-loop-at g l = l.at ≤ length l.rows + 1
 
 abbrev pub decreases-loop-at : goal.decreases-loop-at
-decreases-loop-at l = length l.rows - l.at
+decreases-loop-at g l = length l.rows - l.at

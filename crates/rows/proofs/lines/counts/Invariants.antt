@@ -3,7 +3,7 @@ use Prim.Native.Nat.{◌-◌, ◌≤◌}
 use Rattle.rows.proofs.lines.counts.Given as goal
 
 abbrev pub invariant-loop-x : goal.invariant-loop-x
-invariant-loop-x l = l.x ≤ l.highest
+invariant-loop-x g l = l.x ≤ l.highest
 
 abbrev pub decreases-loop-x : goal.decreases-loop-x
-decreases-loop-x l = l.highest - l.x
+decreases-loop-x g l = l.highest - l.x

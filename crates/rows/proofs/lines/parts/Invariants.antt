@@ -4,7 +4,7 @@ use lib.ListN.{length}
 use Rattle.rows.proofs.lines.parts.Given as goal
 
 abbrev pub invariant-loop-at : goal.invariant-loop-at
-invariant-loop-at l = (l.at ≤ length l.buffer) × (l.part ≤ l.at)
+invariant-loop-at g l = (l.at ≤ length l.buffer) × (l.part ≤ l.at)
 
 abbrev pub decreases-loop-at : goal.decreases-loop-at
-decreases-loop-at l = length l.buffer - l.at
+decreases-loop-at g l = length l.buffer - l.at

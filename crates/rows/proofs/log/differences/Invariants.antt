@@ -2,8 +2,5 @@
 use Prim.Native.Nat.{◌-◌}
 use Rattle.rows.proofs.log.differences.Given as goal
 
-abbrev pub invariant-loop-change : goal.invariant-loop-change
-invariant-loop-change l = Unit {0}
-
 abbrev pub decreases-loop-change : goal.decreases-loop-change
-decreases-loop-change l = l.from - l.change
+decreases-loop-change g l = l.to - l.change
