@@ -3,7 +3,7 @@
 use mathlib.Core.Path.{◌≡◌, refl, ◌∙◌}
 use mathlib.Core.Bool.{Bool, true, false}
 use mathlib.Core.List.{List}
-use Prim.Native.Nat.{ℕ, suc, ◌-◌, ◌≤◌, ◌<◌}
+use Prim.Native.Nat.{ℕ, suc, ◌≤◌, ◌<◌}
 use native.Mathlib.Omega.{arith}
 use lib.ListN.{length}
 use lib.Dec.{ltb}
@@ -16,7 +16,7 @@ use Rattle.tables.specs.inner.Fits.{Checked}
 use Rattle.several.specs.Weights.{extra}
 use Rattle.marking.specs.inner.Queue.{Head}
 use Rattle.marking.specs.inner.Engine.{Spreading, SpreadAs, Light, RoundLeft, Progress}
-use Rattle.marking.specs.inner.Turns.{LeftBy, HeadLeft, PartAsked, PartOf, GoneOf, Half, TurningBy, Turning, TurnedTo}
+use Rattle.marking.specs.inner.Turns.{LeftBy, HeadLeft, PartAsked, PartOf, GoneOf, Half, TurningBy, TurnedTo}
 use Rattle.marking.specs.inner.Parts.{Weighed}
 use Rattle.marking.specs.declared.rounds.Heads.{Heads}
 use Rattle.marking.specs.declared.rounds.Part.{Part}

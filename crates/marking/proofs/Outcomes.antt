@@ -1,7 +1,7 @@
 -- What marking answers and leaves, at each of its ends: the verdict is that of the checks passed before it, and the buffers are
 -- unchanged, blank or filled by its number; the ranks are those that the weights tell.
 use mathlib.Core.Path.{◌≡◌, refl, sym, subst, ◌∙◌}
-use mathlib.Core.Logic.{◌⊎◌, inl, inr, ⊎_elim}
+use mathlib.Core.Logic.{inl, inr, ⊎_elim}
 use mathlib.Core.Bool.{false}
 use mathlib.Core.List.{List, ◌++◌}
 use Prim.Native.Nat.{ℕ, ◌*◌, ◌-◌, ◌≤◌, ◌<◌}

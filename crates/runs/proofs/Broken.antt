@@ -1,7 +1,7 @@
 -- Refusal 19: the bytes behind a stored run are broken where the whole is, further on; so a search that goes from run to run finds the
 -- first broken byte, and no byte is broken exactly where the bytes are stored runs.
 use mathlib.Core.Path.{◌≡◌, refl, sym, ap, subst, ◌∙◌}
-use mathlib.Core.Logic.{◌⊎◌, ◌↔◌, ⊎_elim, inl, inr}
+use mathlib.Core.Logic.{◌↔◌, ⊎_elim, inl, inr}
 use mathlib.Core.List.{List, [], ◌∷◌, ◌++◌, append_assoc}
 use Prim.Native.Nat.{ℕ, zero, suc, ◌+◌, ◌-◌, ◌≤◌, ◌<◌}
 use native.Mathlib.Omega.{arith}

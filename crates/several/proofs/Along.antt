@@ -8,12 +8,12 @@ use native.Mathlib.Nat.{le_refl}
 use native.Mathlib.Omega.{arith}
 use lib.ListN.{length}
 use Rattle.machine.specs.Lists.{In}
-use Rattle.machine.specs.Runs.{Machine, size, couple, move, Sound, Starts, Goes, visits_from, visits, Visitor}
+use Rattle.machine.specs.Runs.{Machine, size, couple, move, Sound, Starts, Goes, visits_from, Visitor}
 use Rattle.machine.specs.Shortest.{rests_from, rests}
 use Rattle.machine.specs.inner.Trails.{Steps, Trail}
 use Rattle.machine.proofs.Couples.{couple_setting, moves}
 use Rattle.machine.proofs.Trails.{last_of, back, along, AtLast, length_rests, length_back, back_rests, stepped, trail_run}
-use Rattle.several.specs.Several.{multiple, multiples_from, multiples}
+use Rattle.several.specs.Several.{multiples_from, multiples}
 use Rattle.several.specs.inner.Lightest.{multiples_along}
 
 -- a trail to couple c of fewer than k changes, a multiple ones at most

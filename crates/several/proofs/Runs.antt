@@ -1,7 +1,7 @@
 -- The run to a couple where several inputs may change at once: it is one run, every couple that some run visits has it, and least parents
 -- lead to it. With W no less than the number of couples it is the least of the lightest trails, since a lightest trail has no loops.
 use mathlib.Core.Path.{◌≡◌, refl, sym, ap, subst, ◌∙◌}
-use mathlib.Core.Logic.{◌⊎◌, ⊎_elim}
+use mathlib.Core.Logic.{⊎_elim}
 use mathlib.Core.List.{List, [], ◌∷◌}
 use mathlib.Core.Bool.{Bool, true, false}
 use Prim.Native.Nat.{ℕ, zero, suc, ◌+◌, ◌*◌, ◌/◌, ◌%◌, ◌≤◌, ◌<◌, zero-le}

@@ -1,7 +1,7 @@
 -- Weights: a change weighs 1, a multiple change W more. The least of the lightest trails to a couple is found by following least parents,
 -- by induction on the weight; some trail is the lightest, since those of a weight are searched for.
 use mathlib.Core.Path.{◌≡◌, refl, sym, ap, subst, ◌∙◌}
-use mathlib.Core.Logic.{◌⊎◌, ⊎_elim, inl, inr}
+use mathlib.Core.Logic.{⊎_elim, inl, inr}
 use mathlib.Core.List.{List, [], ◌∷◌}
 use Prim.Native.Nat.{ℕ, zero, suc, ◌+◌, ◌*◌, ◌-◌, ◌%◌, ◌≤◌, ◌<◌}
 use native.Mathlib.Nat.{le_refl}
@@ -15,7 +15,6 @@ use Rattle.machine.proofs.Couples.{couple_setting}
 use Rattle.verdict.proofs.Tests.{decides_or}
 use Rattle.machine.proofs.Tests.{decides_starts, decides_steps}
 use Rattle.machine.proofs.Exists.{Or, both, by, search_below, trail_below}
-use Rattle.several.specs.Several.{multiple}
 use Rattle.several.specs.inner.Lightest.{multiples_along, step, weight, Lightest, Before, Parent}
 
 module _ (m : Machine) (W : ℕ) where

@@ -1,9 +1,9 @@
 -- What an answer tells of the bytes that were moved: no more than the buffer has.
 use mathlib.Core.Path.{◌≡◌, ap, subst, ◌∙◌}
 use mathlib.Core.List.{List}
-use Prim.Native.Nat.{ℕ, ◌-◌, ◌≤◌}
+use Prim.Native.Nat.{ℕ, ◌≤◌}
 use native.Mathlib.Omega.{arith}
-use lib.ListN.{length, take, drop, replicate, length-take, length-replicate}
+use lib.ListN.{length, replicate, length-replicate}
 use Rattle.std.specs.Prelude.{Result, Ok}
 use Rattle.sheet.specs.Printed.{Prints}
 use Rattle.sheet.specs.inner.Steps.{Within}

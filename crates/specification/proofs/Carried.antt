@@ -13,7 +13,7 @@ use Rattle.sets.proofs.Arrays.{set_same}
 use Rattle.machine.proofs.Order.{below_or}
 use Rattle.machine.proofs.Same.{Into, transient_into, unreached_into, start_into}
 use Rattle.specification.specs.File.{kinds, never_kind, starts_kind, EntryOf}
-use Rattle.specification.specs.Records.{settings, records, source, target, Evolves, Beyond, output_beyond, source_beyond, target_beyond, Own, Twice}
+use Rattle.specification.specs.Records.{settings, records, Evolves, Beyond, output_beyond, source_beyond, target_beyond, Own, Twice}
 use Rattle.specification.specs.Rules.{Unreads, HoldsAt, rule_of, leads_to, Fires, TwoRules, NoRule, Moves, HoldsIn, Allowed, said, power_up, MayStart}
 use Rattle.specification.specs.Reading.{ContentsOf}
 use Rattle.specification.specs.inner.Private.{sound_checks}

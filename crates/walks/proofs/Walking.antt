@@ -20,7 +20,7 @@ pub use Rattle.std.specs.Borrow.{sem}
 pub use contract.Monad.{Fun, fact}
 pub use contract.Running.{tables}
 unfoldable pub use contract.Running.{tables_of}
-pub use types.Kit.{!, Item, Sq, ◌$◌, ◌∵◌, ◌⊛◌, any_q, at_ret, await, by, done, drop, feq_i, feq_l, fjoin, frame, fsplit, group, join, keep, later, move, pick, qed, raw, rewrite, runs, some, split, suffices, use0, use1, use2, ‵, ⋆}
+pub use types.Kit.{ !, Item, Sq, ◌$◌, ◌∵◌, ◌⊛◌, any_q, at_ret, await, by, done, drop, feq_i, feq_l, fjoin, frame, fsplit, group, join, keep, later, move, pick, qed, raw, rewrite, runs, some, split, suffices, use0, use1, use2, ‵, ⋆}
 pub use types.Run.{Below, addr, again, alloc0, alloc1, and_then, assigns, assigns_last, bin, blocks, branches, enter, exec, first, fld, forget, free0, free1, from, hop, init, land, leaves_loop, lit, load, look, look_raw, loops, no_more, of_opd, params1, pass0, pass1, returns, stays, stop, store, store_raw, unit_lit}
 pub use types.Part.{agg, look_in, sub, whole}
 pub use sound.WpLaws.{FmC, fm_of}

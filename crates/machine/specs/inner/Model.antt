@@ -1,5 +1,5 @@
 -- Ranks, parents, runs and the plan by computation.
-use Rattle.std.specs.Prelude.{List, [], ◌∷◌, ◌++◌, Bool, true, false, not, cond, ℕ, zero, suc, ◌+◌, ◌%◌, ◌<◌, get_or, eqb}
+use Rattle.std.specs.Prelude.{List, [], ◌∷◌, ◌++◌, Bool, true, false, not, cond, ℕ, zero, suc, ◌%◌, ◌<◌, get_or, eqb}
 use Rattle.machine.specs.Limits.{unmarked}
 use Rattle.machine.specs.Runs.{Machine, size, couples, visits, Rank, RankOrUnmarked}
 use Rattle.machine.specs.inner.Trails.{Parent}

@@ -1,7 +1,6 @@
 -- `clear_weights` fills a list: among the first c, no couple has a weight.
 use native.Mathlib.Omega.{arith}
 use mathlib.Core.Path.{refl}
-use Prim.Native.Nat.{◌-◌}
 use Rattle.verdict.proofs.Fills.{filled_none, filled_more, filled_at}
 use Rattle.marking.proofs.clear_weights.Goals as goal
 

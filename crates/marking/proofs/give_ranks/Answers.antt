@@ -1,9 +1,7 @@
 -- `give_ranks` fills a list: the first c elements are the ranks that the weights tell.
 use native.Mathlib.Omega.{arith}
 use mathlib.Core.Path.{refl}
-use Prim.Native.Nat.{◌-◌}
 use Rattle.verdict.proofs.Fills.{filled_none, filled_more, filled_at}
-use Rattle.marking.specs.inner.Parts.{rank_of}
 use Rattle.marking.proofs.give_ranks.Goals as goal
 
 pub bounds-ranks-c : goal.bounds-ranks-c

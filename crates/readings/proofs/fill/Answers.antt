@@ -1,7 +1,7 @@
 -- `fill` writes the readings of a run: what is written so far, with the readings of the settings that are left, is all of them.
 use native.Mathlib.Omega.{arith}
 use mathlib.Core.Path.{◌≡◌, refl, ◌∙◌}
-use Prim.Native.Nat.{ℕ, ◌+◌, ◌-◌, ◌<◌}
+use Prim.Native.Nat.{ℕ, ◌+◌, ◌<◌}
 use lib.ListN.{length, get_or, length-set}
 use lib.Seq.{drop-length}
 use Rattle.machine.specs.Runs.{machine_of}

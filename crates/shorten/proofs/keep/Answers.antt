@@ -1,6 +1,5 @@
 -- `keep` goes from run to run, a turn for each: the runs that stay stand at the front.
 use native.Mathlib.Omega.{arith}
-use Prim.Native.Nat.{◌-◌}
 use Rattle.machine.specs.Runs.{machine_of}
 use Rattle.runs.proofs.Front.{First, first_run}
 use Rattle.shorten.specs.inner.Passing.{settings_in}

@@ -1,7 +1,7 @@
 -- `mark` walks over the settings: marking what is left of them ends as marking all of them does.
 use native.Mathlib.Omega.{arith}
 use mathlib.Core.Path.{◌≡◌}
-use Prim.Native.Nat.{◌-◌, ◌<◌, ◌^◌}
+use Prim.Native.Nat.{◌<◌, ◌^◌}
 use lib.ListN.{length, length-set}
 use Rattle.machine.specs.Runs.{machine_of}
 use Rattle.shorten.specs.inner.Passing.{Ground}

@@ -1,6 +1,5 @@
 -- `mark_all` goes from run to run: marking the runs ahead ends as marking all of them does.
 use native.Mathlib.Omega.{arith}
-use Prim.Native.Nat.{◌-◌}
 use Rattle.machine.specs.Runs.{machine_of}
 use Rattle.runs.proofs.Front.{First, first_run}
 use Rattle.shorten.specs.inner.Passing.{settings_in}

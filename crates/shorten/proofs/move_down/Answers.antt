@@ -1,7 +1,6 @@
 -- `move_down` copies byte by byte from the front: what it still has to read lies beyond what it has written.
 use native.Mathlib.Omega.{arith}
 use mathlib.Core.Path.{◌≡◌}
-use Prim.Native.Nat.{◌-◌}
 use lib.ListN.{drop, length-set}
 use lib.Seq.{paste-zero}
 use Rattle.shorten.proofs.Moving.{move_one}

@@ -1,7 +1,7 @@
 -- `reach` walks over the settings while the couples in front have marks of at least x.
 use native.Mathlib.Omega.{arith}
 use mathlib.Core.Path.{◌≡◌}
-use Prim.Native.Nat.{◌-◌, ◌<◌, ◌^◌}
+use Prim.Native.Nat.{◌<◌, ◌^◌}
 use lib.ListN.{length}
 use Rattle.shorten.proofs.Walking.{next_state, entered_inside, moved_inside, reaching_start, reaching_entered, reaching_moved, reaching_more, reaching_end}
 use Rattle.shorten.proofs.reach.Goals as goal

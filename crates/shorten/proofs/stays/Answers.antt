@@ -2,7 +2,6 @@
 use native.Mathlib.Omega.{arith}
 use mathlib.Core.Path.{sym, subst}
 use mathlib.Core.Bool.{true}
-use Prim.Native.Nat.{◌-◌}
 use lib.ListN.{length, drop, length-drop}
 use Rattle.verdict.proofs.Fills.{rest_lent}
 use Rattle.machine.specs.Runs.{machine_of}

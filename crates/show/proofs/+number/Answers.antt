@@ -1,5 +1,4 @@
 -- The digits of the tenth part, then the last digit.
-use native.Mathlib.Omega.{arith}
 use Rattle.show.proofs.Digits.{digits_one, digits_more}
 use Rattle.show.proofs.Steps.{adds_then}
 use Rattle.show.proofs.+number.Goals as goal

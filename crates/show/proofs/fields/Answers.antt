@@ -1,7 +1,6 @@
 -- What is left of the line is that of the settings left; at the end it is the line feed.
 use native.Mathlib.Omega.{arith}
 use mathlib.Core.Path.{◌∙◌}
-use Prim.Native.Nat.{◌-◌}
 use lib.ListN.{drop_of_length-le}
 use Rattle.show.proofs.Lists.{drop_next}
 use Rattle.show.proofs.Steps.{left_all, left_less, left_none}

@@ -2,8 +2,6 @@
 use native.Mathlib.Omega.{arith}
 use mathlib.Core.Path.{◌≡◌}
 use native.Mathlib.Numerals.{add-one}
-use Prim.Native.Nat.{◌-◌}
-use Rattle.show.specs.Sheet.{count_of}
 use Rattle.show.proofs.Steps.{adds_none, adds_then}
 use Rattle.show.proofs.lines_below.Goals as goal
 

@@ -1,6 +1,6 @@
 -- What is left of the text is the lines of the runs left.
 use native.Mathlib.Omega.{arith}
-use Prim.Native.Nat.{◌+◌, ◌-◌, ◌*◌}
+use Prim.Native.Nat.{◌+◌, ◌*◌}
 use lib.ListN.{drop, length-drop}
 use Rattle.show.proofs.Multi.{list_none, next_listed}
 use Rattle.show.proofs.Steps.{left_all, left_less, left_none}

@@ -1,6 +1,5 @@
 -- What is left of the text is the lines of the runs left, numbered from the next one.
 use native.Mathlib.Omega.{arith}
-use Prim.Native.Nat.{◌-◌}
 use lib.ListN.{drop, length-drop}
 use native.Mathlib.Numerals.{add-one}
 use Rattle.runs.proofs.Split.{runs_none, next_run}

@@ -1,6 +1,5 @@
 -- What is left of the word is to be written.
 use native.Mathlib.Omega.{arith}
-use Prim.Native.Nat.{◌-◌}
 use lib.ListN.{drop_of_length-le}
 use Rattle.show.proofs.Lists.{drop_next}
 use Rattle.show.proofs.Steps.{left_all, left_less, left_none}

@@ -1,7 +1,6 @@
 -- `started` finds a start or none: no setting below v is one.
 use borrow.Author.Rules.{rules}
 use native.Mathlib.Omega.{arith}
-use Prim.Native.Nat.{◌-◌}
 use borrow.Author.Count.{below_more}
 use Rattle.verdict.proofs.Tests.{it_holds, it_fails}
 use Rattle.machine.proofs.Sizes.{settings_are}

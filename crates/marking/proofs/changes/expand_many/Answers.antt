@@ -7,7 +7,6 @@ use borrow.Author.Rules.{rules}
 use native.Mathlib.Omega.{arith}
 use mathlib.Core.Path.{◌≡◌, refl}
 use mathlib.Core.Bool.{true}
-use Prim.Native.Nat.{◌-◌}
 use Rattle.marking.proofs.changes.expand_many.Goals as goal
 
 pub loop-next-init : goal.loop-next-init

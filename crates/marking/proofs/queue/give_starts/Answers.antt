@@ -4,7 +4,6 @@ use Rattle.marking.proofs.Pushing.{pushed_none}
 use Rattle.marking.specs.inner.Engine.{ByStart}
 use native.Mathlib.Omega.{arith}
 use mathlib.Core.Path.{◌≡◌, refl}
-use Prim.Native.Nat.{◌-◌}
 use Rattle.machine.specs.Runs.{machine_by}
 use Rattle.marking.proofs.queue.give_starts.Goals as goal
 

@@ -3,7 +3,6 @@ use Rattle.machine.specs.Runs.{machine_by}
 use Rattle.marking.proofs.Heads.{going_none, head_in, head_light, head_expands, going_more, going_stop, going_end}
 use native.Mathlib.Omega.{arith}
 use mathlib.Core.Path.{refl}
-use Prim.Native.Nat.{◌-◌}
 use Rattle.marking.proofs.rounds.spread.Goals as goal
 
 pub loop-head-init : goal.loop-head-init

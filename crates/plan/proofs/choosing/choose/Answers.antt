@@ -1,6 +1,5 @@
 -- The invariant: the first c couples had their turns.
 use mathlib.Core.Path.{◌≡◌, refl}
-use Prim.Native.Nat.{◌-◌}
 use native.Mathlib.Omega.{arith}
 use Rattle.plan.proofs.Turns.{chosen_none, chosen_more}
 use Rattle.plan.proofs.choosing.choose.Goals as goal

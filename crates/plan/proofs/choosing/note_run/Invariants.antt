@@ -1,5 +1,4 @@
 use mathlib.Core.Path.{◌≡◌}
-use Prim.Native.Nat.{◌-◌}
 use lib.ListN.{length}
 use Rattle.plan.specs.inner.Choosing.{RoomFor, noted_run}
 use Rattle.plan.proofs.choosing.note_run.Given as goal

@@ -1,6 +1,5 @@
 -- The invariant: the pieces of the first c couples stand at the front; each next one is written into the rest.
 use mathlib.Core.Path.{◌≡◌, refl}
-use Prim.Native.Nat.{◌-◌}
 use native.Mathlib.Omega.{arith}
 use Rattle.plan.specs.inner.Writing.{piece}
 use Rattle.plan.proofs.Fronts.{length_rest, put_front, put_none, put_reach, put_more}

@@ -1,6 +1,5 @@
 -- `first_broken` goes from run to run: the bytes from byte `at` on are broken where the whole is.
 use native.Mathlib.Omega.{arith}
-use Prim.Native.Nat.{◌-◌}
 use Rattle.runs.proofs.Broken.{past_start, past_more, past_found, past_end}
 use Rattle.runs.proofs.stored.first_broken.Goals as goal
 

@@ -1,7 +1,6 @@
 -- `begins` compares a file with a mark: the bytes before i are the same.
 use borrow.Author.Rules.{rules}
 use native.Mathlib.Omega.{arith}
-use Prim.Native.Nat.{◌-◌}
 use borrow.Author.Count.{below_more}
 use Rattle.verdict.proofs.Tests.{it_holds, it_fails}
 use Rattle.specification.proofs.Laws.{prefix_long, prefix_at, prefix_all}

@@ -1,7 +1,7 @@
 -- `bodies_of` goes through the entries: the bodies before k are decoded, and `start` is where the body of entry k starts.
 use borrow.Author.Rules.{rules}
 use native.Mathlib.Omega.{arith}
-use Prim.Native.Nat.{ℕ, ◌-◌}
+use Prim.Native.Nat.{ℕ}
 use lib.ListN.{length-replicate}
 use Rattle.verdict.proofs.Fills.{filled_none, filled_more}
 use Rattle.specification.specs.inner.Private.{most_kinds}

@@ -1,7 +1,6 @@
 -- `entry_of` finds the least entry of a kind: none below k is of it.
 use borrow.Author.Rules.{rules}
 use native.Mathlib.Omega.{arith}
-use Prim.Native.Nat.{◌-◌}
 use Rattle.verdict.proofs.Tests.{unseen_start, unseen_more, unseen_here, unseen_end}
 use Rattle.specification.proofs.file.entry_of.Goals as goal
 

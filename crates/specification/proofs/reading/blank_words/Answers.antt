@@ -1,7 +1,6 @@
 -- `blank_words` fills with the blank: the first p elements are blank.
 use native.Mathlib.Omega.{arith}
 use mathlib.Core.Path.{refl}
-use Prim.Native.Nat.{◌-◌}
 use Rattle.verdict.proofs.Fills.{filled_none, filled_more, filled_at}
 use Rattle.specification.proofs.reading.blank_words.Goals as goal
 

@@ -1,6 +1,5 @@
 -- `fill_words` fills the words: the first s are those of the records.
 use native.Mathlib.Omega.{arith}
-use Prim.Native.Nat.{◌-◌}
 use Rattle.verdict.proofs.Fills.{filled_none, filled_more, filled_at}
 use Rattle.specification.proofs.reading.fill_words.Goals as goal
 

@@ -1,7 +1,6 @@
 -- `bodies_fit` goes through the bodies beyond kind 4: those before k fit.
 use borrow.Author.Rules.{rules}
 use native.Mathlib.Omega.{arith}
-use Prim.Native.Nat.{◌-◌}
 use borrow.Author.Count.{below_more}
 use Rattle.verdict.proofs.Tests.{it_holds, it_fails}
 use Rattle.specification.proofs.records.bodies_fit.Goals as goal

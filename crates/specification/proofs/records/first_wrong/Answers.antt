@@ -1,7 +1,6 @@
 -- `first_wrong` finds the least record at which a check fails: it fails at none below r.
 use borrow.Author.Rules.{rules}
 use native.Mathlib.Omega.{arith}
-use Prim.Native.Nat.{◌-◌}
 use Rattle.verdict.proofs.Tests.{unseen_start, unseen_more, unseen_here, unseen_end}
 use Rattle.specification.proofs.Laws.{wrong_below}
 use Rattle.specification.proofs.records.first_wrong.Goals as goal

@@ -2,7 +2,6 @@
 use borrow.Author.Rules.{rules}
 use native.Mathlib.Omega.{arith}
 use mathlib.Core.Path.{◌≡◌, ap}
-use Prim.Native.Nat.{◌-◌}
 use Rattle.verdict.specs.Below.{sum_to}
 use Rattle.specification.specs.Records.{text_length}
 use Rattle.verdict.proofs.Below.{sum_more}

@@ -1,7 +1,6 @@
 -- `twice` looks for the source and target among the earlier evolutions: none before q has them.
 use borrow.Author.Rules.{rules}
 use native.Mathlib.Omega.{arith}
-use Prim.Native.Nat.{◌-◌}
 use borrow.Author.Count.{below_more}
 use Rattle.verdict.proofs.Tests.{it_holds, it_fails}
 use Rattle.specification.proofs.records.twice.Goals as goal

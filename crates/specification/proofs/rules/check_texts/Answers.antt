@@ -1,7 +1,6 @@
 -- `check_texts` halts at the least condition that does not read: each below r reads, or is not asked.
 use borrow.Author.Rules.{rules}
 use native.Mathlib.Omega.{arith}
-use Prim.Native.Nat.{◌-◌}
 use Rattle.verdict.proofs.Order.{pass, halt, ends}
 use Rattle.verdict.proofs.Tests.{unseen_more}
 use Rattle.condition.proofs.Says.{told_reads, told_unread}

@@ -3,7 +3,7 @@
 use borrow.Author.Rules.{rules}
 use native.Mathlib.Omega.{arith}
 use mathlib.Core.Path.{◌≡◌, refl, sym, ap, subst, ◌∙◌}
-use Prim.Native.Nat.{◌+◌, ◌*◌, ◌-◌, ◌<◌}
+use Prim.Native.Nat.{◌+◌, ◌*◌, ◌<◌}
 use lib.Arith.{digits_lt}
 use Rattle.verdict.specs.Checks.{Finds, at}
 use Rattle.verdict.proofs.Tests.{unseen_start, unseen_more, unseen_at, unseen_end, at_something}

@@ -1,9 +1,7 @@
 -- `next_rule` looks for the next rule of the same state: none between r and q is one.
 use native.Mathlib.Omega.{arith}
 use mathlib.Core.Path.{sym, ◌∙◌}
-use Prim.Native.Nat.{◌-◌}
 use borrow.Author.Count.{below_more}
-use Rattle.specification.specs.Rules.{rule_of}
 use Rattle.specification.proofs.rules.next_rule.Goals as goal
 
 pub returns-then-rule_of-s : goal.returns-then-rule_of-s

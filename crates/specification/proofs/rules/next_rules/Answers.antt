@@ -1,6 +1,5 @@
 -- `next_rules` links the rules: the first r links are right.
 use native.Mathlib.Omega.{arith}
-use Prim.Native.Nat.{◌-◌}
 use Rattle.verdict.proofs.Fills.{filled_none, filled_more}
 use Rattle.specification.proofs.rules.next_rules.Goals as goal
 

@@ -1,7 +1,6 @@
 -- `places_of` adds up lengths: `at` is where text r begins, and the first r places are right.
 use native.Mathlib.Omega.{arith}
 use mathlib.Core.Path.{◌≡◌, ap, ◌∙◌}
-use Prim.Native.Nat.{◌-◌}
 use Rattle.verdict.proofs.Fills.{filled_none, filled_more, filled_at}
 use Rattle.verdict.specs.Below.{sum_to}
 use Rattle.specification.specs.Records.{records, text_length}

@@ -1,7 +1,6 @@
 -- `first_stateless` finds the least couple at which there is no state: there is one at each below p.
 use borrow.Author.Rules.{rules}
 use native.Mathlib.Omega.{arith}
-use Prim.Native.Nat.{◌-◌}
 use Rattle.verdict.proofs.Tests.{unseen_start, unseen_more, unseen_here, unseen_end}
 use Rattle.machine.proofs.Couples.{couples_bound, couple_below}
 use Rattle.tables.proofs.Transients.{stateless_at}

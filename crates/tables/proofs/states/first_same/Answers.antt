@@ -1,7 +1,6 @@
 -- `first_same` finds the least state with the word of an earlier one: none below s has.
 use borrow.Author.Rules.{rules}
 use native.Mathlib.Omega.{arith}
-use Prim.Native.Nat.{◌-◌}
 use Rattle.verdict.proofs.Tests.{unseen_start, unseen_more, unseen_here, unseen_end}
 use Rattle.tables.proofs.states.first_same.Goals as goal
 

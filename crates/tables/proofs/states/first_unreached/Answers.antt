@@ -1,7 +1,6 @@
 -- `first_unreached` finds the least state whose flag is down: none below s is unreached.
 use borrow.Author.Rules.{rules}
 use native.Mathlib.Omega.{arith}
-use Prim.Native.Nat.{◌-◌}
 use borrow.Author.Count.{below_more}
 use Rattle.verdict.specs.Checks.{at, nothing}
 use Rattle.tables.proofs.states.first_unreached.Goals as goal

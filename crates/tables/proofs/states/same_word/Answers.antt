@@ -1,7 +1,6 @@
 -- `same_word` decides refusal 11 at a state: no state below q has its word.
 use borrow.Author.Rules.{rules}
 use native.Mathlib.Omega.{arith}
-use Prim.Native.Nat.{◌-◌}
 use borrow.Author.Count.{below_more}
 use Rattle.verdict.proofs.Tests.{it_holds, it_fails}
 use Rattle.tables.proofs.states.same_word.Goals as goal
