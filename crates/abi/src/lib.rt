@@ -18,15 +18,34 @@ use bench::{Log, Reading};
 use evolutions::Evolution;
 use machine::Frame;
 use specification::Contents;
-use verdict::Answer;
+use verdict::{Answer, Refusal};
 
 // What an update of a log answers: its number and place, and kind 0 for equal, 1 for stored, 2 for full, 3 with a refusal.
 #[repr(C)]
-#[derive(Clone, Copy)]
+#[derive(Clone, Copy, Debug, PartialEq, Eq)]
 pub struct Noted {
     pub number: usize,
     pub place: usize,
     pub kind: usize,
+}
+
+impl From<Result<bench::Noted, Refusal>> for Noted {
+    ghost from_gives = { λ told noted. noted ≡ record { number = number_of told; place = place_of told; kind = kind_of told } };
+
+    fn from(told: Result<bench::Noted, Refusal>) -> Noted {
+        let kind = match told {
+            Ok(bench::Noted::Equal) => 0,
+            Ok(bench::Noted::Stored) => 1,
+            Ok(bench::Noted::Full) => 2,
+            Err(_) => 3,
+        };
+        let Answer { number, place } = told.map(|_| ()).into();
+        Noted {
+            number,
+            place,
+            kind,
+        }
+    }
 }
 
 // `specification::read`.
@@ -61,7 +80,7 @@ pub extern "C" fn mundrefol_evolution_holds(
 pub extern "C" fn mundrefol_mark(frame: Frame, table: &[u8], ranks: &mut [u16]) -> Answer
     ensures { MarkedAs (machine_of frame table.now) ranks.old result ranks.new }
 {
-    marking::mark(frame, table, ranks)
+    marking::mark(frame, table, ranks).into()
 }
 
 // `plan::run_to`.
@@ -75,7 +94,7 @@ pub extern "C" fn mundrefol_run_to(
 ) -> Answer
     ensures { RunAs (machine_of frame table.now) couple ranks.old run.old result ranks.new run.new }
 {
-    plan::run_to(frame, table, ranks, couple, run)
+    plan::run_to(frame, table, ranks, couple, run).into()
 }
 
 // `plan::multi_run_to`.
@@ -89,7 +108,7 @@ pub extern "C" fn mundrefol_multi_run_to(
 ) -> Answer
     ensures { MultiAs (machine_by true frame table.now) couple ranks.old run.old result ranks.new run.new }
 {
-    plan::multi_run_to(frame, table, ranks, couple, run)
+    plan::multi_run_to(frame, table, ranks, couple, run).into()
 }
 
 // `plan::plan`.
@@ -102,7 +121,7 @@ pub extern "C" fn mundrefol_plan(
 ) -> Answer
     ensures { PlannedAs (machine_of frame table.now) ranks.old plan.old result ranks.new plan.new }
 {
-    plan::plan(frame, table, ranks, plan)
+    plan::plan(frame, table, ranks, plan).into()
 }
 
 // `plan::multi_list`.
@@ -115,7 +134,7 @@ pub extern "C" fn mundrefol_multi_list(
 ) -> Answer
     ensures { ListedAs (machine_by true frame table.now) ranks.old list.old result ranks.new list.new }
 {
-    plan::multi_list(frame, table, ranks, list)
+    plan::multi_list(frame, table, ranks, list).into()
 }
 
 // `shorten::shorten`.
@@ -123,7 +142,7 @@ pub extern "C" fn mundrefol_multi_list(
 pub extern "C" fn mundrefol_shorten(frame: Frame, table: &[u8], plan: &mut [u8]) -> Answer
     ensures { ShortenedAs (machine_of frame table.now) plan.old result plan.new }
 {
-    shorten::shorten(frame, table, plan)
+    shorten::shorten(frame, table, plan).into()
 }
 
 // `readings::expected`.
@@ -137,7 +156,7 @@ pub extern "C" fn mundrefol_expected(
 ) -> Answer
     ensures { ExpectedAs (machine_of frame table.now) words.now run.now readings.old result readings.new }
 {
-    readings::expected(frame, table, words, run, readings)
+    readings::expected(frame, table, words, run, readings).into()
 }
 
 // `readings::multi_expected`.
@@ -151,7 +170,7 @@ pub extern "C" fn mundrefol_multi_expected(
 ) -> Answer
     ensures { ExpectedAs (machine_by true frame table.now) words.now run.now readings.old result readings.new }
 {
-    readings::multi_expected(frame, table, words, run, readings)
+    readings::multi_expected(frame, table, words, run, readings).into()
 }
 
 // `bench::update`.
@@ -167,34 +186,11 @@ pub extern "C" fn mundrefol_update(
     ensures { outcome_of result log.new ≡ update_of log.old (record { run = run; change = change; second = second; expected = expected; seen = seen }) }
 {
     let reading = Reading {
-        run: run,
-        change: change,
-        second: second,
-        expected: expected,
-        seen: seen,
+        run,
+        change,
+        second,
+        expected,
+        seen,
     };
-    let answer = bench::update(log, reading);
-    in_numbers(answer)
-}
-
-// Document 01's number and place of an answer, and its kind.
-fn in_numbers(answer: bench::Noted) -> Noted
-    ensures { result ≡ record { number = number_of answer; place = place_of answer; kind = kind_of answer } }
-{
-    match answer {
-        bench::Noted::Equal => told(0, 0),
-        bench::Noted::Stored => told(0, 1),
-        bench::Noted::Full => told(0, 2),
-        bench::Noted::Refused => told(18, 3),
-    }
-}
-
-fn told(number: usize, kind: usize) -> Noted
-    ensures { result ≡ record { number = number; place = 0; kind = kind } }
-{
-    Noted {
-        number: number,
-        place: 0,
-        kind: kind,
-    }
+    bench::update(log, reading).into()
 }

@@ -9,6 +9,7 @@ use mathlib.Core.List.{List, [], ◌∷◌, ◌++◌}
 use lib.Dec.{eqb}
 use lib.ListN.{length, get_or, replicate, length-append}
 use borrow.Author.Tests.{eqb-true, eqb-false, eq-eqb, not-false, not-true}
+use Rattle.std.proofs.lemmas.List.Elements.{filter-append}
 use Rattle.basics.specs.Words.{most_outputs}
 use Rattle.verdict.specs.Below.{sum_to, list_to}
 use Rattle.verdict.proofs.Below.{sum_below, list_at, list_same}
@@ -18,30 +19,16 @@ use Rattle.bench.specs.Readings.{differs, output_of, differs_in, those, times, o
 use Rattle.bench.specs.History.{Fits}
 
 -- ---- one reading more
-those_cons : (x : Reading) (ds es : List Reading) (t : Bool) → cond t (x ∷ ds ++ es) (ds ++ es) ≡ cond t (x ∷ ds) ds ++ es
-those_cons x ds es true = refl
-those_cons x ds es false = refl
-
 one_or_none : (r : Reading) (t : Bool) → length (cond t (r ∷ []) []) ≡ one_if t
 one_or_none r true = refl
 one_or_none r false = refl
 
-fewer_cons : (x : Reading) (ds : List Reading) (n : ℕ) (t : Bool) → length ds ≤ n → length (cond t (x ∷ ds) ds) ≤ suc n
-fewer_cons x ds n true h = omega arith
-fewer_cons x ds n false h = omega arith
-
 module _ (p : Reading → Bool) where
   pub those_snoc : (rs : List Reading) (r : Reading) → those p (rs ++ r ∷ []) ≡ those p rs ++ cond (p r) (r ∷ []) []
-  those_snoc [] r = refl
-  those_snoc (x ∷ rs) r = rw (those_snoc rs r) (those_cons x (those p rs) (cond (p r) (r ∷ []) []) (p x))
+  those_snoc rs r = filter-append p rs (r ∷ [])
 
   pub count_snoc : (rs : List Reading) (r : Reading) → length (those p (rs ++ r ∷ [])) ≡ length (those p rs) + one_if (p r)
   count_snoc rs r = rw (those_snoc rs r, length-append, one_or_none r (p r))
-
-  -- no more are counted than there are
-  pub fewer : (rs : List Reading) → length (those p rs) ≤ length rs
-  fewer [] = omega arith
-  fewer (x ∷ rs) = fewer_cons x (those p rs) (length rs) (p x) (fewer rs)
 
 -- ---- the counts of all outputs
 abbrev pub counts_of : List Reading → List ℕ
@@ -50,9 +37,6 @@ counts_of rs = list_to (times rs) most_outputs
 pub counts_none : counts_of [] ≡ replicate most_outputs 0
 unfolding list_to
 counts_none = refl
-
-pub counts_few : (rs : List Reading) (j : ℕ) → j < most_outputs → get_or (counts_of rs) j 0 ≤ length rs
-counts_few rs j h = rw (list_at (times rs) most_outputs j h) (fewer (differs_in j) rs)
 
 pub counts_snoc : (rs : List Reading) (r : Reading) → list_to (λ j. get_or (counts_of rs) j 0 + one_if (differs_in j r)) most_outputs ≡ counts_of (rs ++ r ∷ [])
 counts_snoc rs r = list_same _ _ most_outputs (λ j h. ap (λ t. t + one_if (differs_in j r)) (list_at (times rs) most_outputs j h) ∙ sym (count_snoc (differs_in j) rs r))

@@ -4,3 +4,4 @@ pub mod Cases
 pub mod Only
 pub mod History
 pub mod Lent
+pub mod Chains

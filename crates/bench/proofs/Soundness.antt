@@ -4,17 +4,18 @@ use native.Mathlib.Omega.{arith}
 use native.Mathlib.Nat.{add-zero}
 use native.Mathlib.Numerals.{add-one}
 use mathlib.Core.Path.{◌≡◌, refl, sym, ap, ◌∙◌}
-use mathlib.Core.Bool.{Bool, true, false, not, ◌||◌}
+use mathlib.Core.Bool.{Bool, true, false, not}
 use mathlib.Core.List.{[], ◌∷◌, ◌++◌}
 use lib.Dec.{ltb, leb, eqb}
 use lib.ListN.{length, get_or, set}
 use lib.Seq.{take-suc-set, get_or-set_same, get_or-set_other}
 use borrow.Author.Count.{below_more}
 use borrow.Author.Tests.{ltb-true, ltb-false, eqb-false, not-false}
+use Rattle.std.proofs.lemmas.Bool.{or_parts}
 use Rattle.basics.specs.Words.{most_outputs}
 use Rattle.verdict.specs.Checks.{Decides}
 use Rattle.verdict.specs.Below.{every, sum_to}
-use Rattle.verdict.proofs.Tests.{decides_map, decides_equal, decides_at_most, decides_true, decides_if, decides_is, decides_unique, ◌also◌}
+use Rattle.verdict.proofs.Tests.{decides_map, decides_equal, decides_at_most, decides_true, decides_if, decides_is, ◌also◌}
 use Rattle.verdict.proofs.Below.{decides_every, sum_plus, list_at}
 use Rattle.bench.specs.declared.Reading.{Reading}
 use Rattle.bench.specs.declared.Log.{Log}
@@ -43,15 +44,14 @@ pub record Sound (l : Log) : Type 0 where
   pub exact : l.differing ≤ most_entries → Exact l
 
 module _ (l : Log) where
-  pub decides_unequal : Decides (Unequal l) (every l.kept (λ i. differs (entry_at l i)))
+  decides_unequal : Decides (Unequal l) (every l.kept (λ i. differs (entry_at l i)))
   decides_unequal = decides_every l.kept _ (λ i. differs (entry_at l i) ≡ true) (λ i. decides_true (differs (entry_at l i)))
 
-  pub decides_most : Decides (Most l) (every most_outputs (λ j. leb (count_at l j) l.differing))
+  decides_most : Decides (Most l) (every most_outputs (λ j. leb (count_at l j) l.differing))
   decides_most = decides_every most_outputs _ (λ j. count_at l j ≤ l.differing) (λ j. decides_at_most (count_at l j) l.differing)
 
-  -- whichever list has the counts of the entries
-  pub decides_exact : (f : ℕ → ℕ) → ((j : ℕ) → j < most_outputs → f j ≡ times (kept_of l) j) → Decides (Exact l) (every most_outputs (λ j. eqb (count_at l j) (f j)))
-  decides_exact f e = decides_map (λ x j h. x j h ∙ e j h) (λ x j h. x j h ∙ sym (e j h)) (decides_every most_outputs _ (λ j. count_at l j ≡ f j) (λ j. decides_equal (count_at l j) (f j)))
+  decides_exact : Decides (Exact l) (every most_outputs (λ j. eqb (count_at l j) (times (kept_of l) j)))
+  decides_exact = decides_every most_outputs _ (λ j. count_at l j ≡ times (kept_of l) j) (λ j. decides_equal (count_at l j) (times (kept_of l) j))
 
   pub decides_sound : Decides (Sound l) (sound l)
   decides_sound = decides_map
@@ -63,24 +63,17 @@ module _ (l : Log) where
       also decides_unequal
       also decides_most
       also decides_at_most l.differing (sum_to (count_at l) most_outputs)
-      also decides_if (decides_at_most l.differing most_entries) (decides_exact (times (kept_of l)) (λ j h. refl))
+      also decides_if (decides_at_most l.differing most_entries) decides_exact
       )
-
-  pub says_sound : {b : Bool} → Decides (Sound l) b → b ≡ sound l
-  says_sound {b} d = decides_unique (Sound l) b (sound l) d decides_sound
 
 -- a log that is not refused is sound, and its readings are not at their most
 pub record Taken (l : Log) : Type 0 where
   pub is : Sound l
   pub below : l.readings ≡ most_readings → ⊥
 
-neither : (a b : Bool) → (a || b) ≡ false → (a ≡ false) × (b ≡ false)
-neither false b e = (refl, e)
-neither true b e = (e, let z : ◌≡◌ {A = Bool} true false = e in cc)
-
 pub taken : (l : Log) → refuses l ≡ false → Taken l
 taken l e =
-    let p = neither (not (sound l)) (eqb l.readings most_readings) e in
+    let p = or_parts (not (sound l)) (eqb l.readings most_readings) e in
     record { is = (decides_sound l).holds (not-false _ p.0); below = eqb-false _ _ p.1 }
 
 -- ---- the log after an update

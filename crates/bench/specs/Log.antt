@@ -1,12 +1,14 @@
 -- The bench log (documents 01 and 02): what a reading answers, what an update makes of the log, and when it is refused.
 -- A log has readings, differing readings, entries kept, the first 32 differences, and for each output the readings in which it differed.
-use Rattle.std.specs.Prelude.{ℕ, ◌+◌, min, Bool, true, false, cond, not, ◌&&◌, ◌||◌, List, ltb, leb, eqb, get_or, take, set}
+use Rattle.std.specs.Prelude.{ℕ, ◌+◌, min, Bool, true, false, cond, not, ◌&&◌, ◌||◌, List, ltb, leb, eqb, get_or, take, set, Result, Ok, Err}
 use Rattle.basics.specs.Words.{most_outputs}
+use Rattle.verdict.specs.declared.Refusal.{Refusal}
 use Rattle.verdict.specs.Below.{every, sum_to, list_to}
+use Rattle.verdict.specs.Refusals.{verdict_of}
 use Rattle.bench.specs.declared.Reading.{Reading}
 use Rattle.bench.specs.declared.Log.{Log}
 use Rattle.bench.specs.declared.Noted.{Noted}
-use Rattle.bench.specs.declared.Noted.TheVariants.{Equal, Stored, Full, Refused}
+use Rattle.bench.specs.declared.Noted.TheVariants.{Equal, Stored, Full}
 use Rattle.bench.specs.Readings.{differs, differs_in, times, one_if}
 
 -- the first 32 differences are kept, and up to 4,294,967,295 readings counted
@@ -96,20 +98,17 @@ update_of l r = cond (refuses l)
     (record { number = 0; place = 0; kind = kind_at l r; log = noted l r })
 
 -- document 01's number and place for each answer, and its kind
-abbrev pub number_of : Noted → ℕ
-number_of Equal = 0
-number_of Stored = 0
-number_of Full = 0
-number_of Refused = 18
+abbrev pub number_of : Result Noted Refusal → ℕ
+number_of a = (verdict_of a).number
 
-abbrev pub place_of : Noted → ℕ
-place_of a = 0
+abbrev pub place_of : Result Noted Refusal → ℕ
+place_of a = (verdict_of a).place
 
-abbrev pub kind_of : Noted → ℕ
-kind_of Equal = equal
-kind_of Stored = stored
-kind_of Full = full
-kind_of Refused = refused
+abbrev pub kind_of : Result Noted Refusal → ℕ
+kind_of (Ok Equal) = equal
+kind_of (Ok Stored) = stored
+kind_of (Ok Full) = full
+kind_of (Err _) = refused
 
-abbrev pub outcome : Noted → Log → Outcome
+abbrev pub outcome : Result Noted Refusal → Log → Outcome
 outcome a l = record { number = number_of a; place = place_of a; kind = kind_of a; log = l }

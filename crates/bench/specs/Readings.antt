@@ -1,5 +1,5 @@
 -- Readings, the outputs in which their words differ, and how often each did (document 02). Assumes nothing: these are definitions.
-use Rattle.std.specs.Prelude.{ℕ, ◌/◌, ◌%◌, ◌^◌, Bool, cond, not, List, [], ◌∷◌, eqb, length}
+use Rattle.std.specs.Prelude.{ℕ, ◌/◌, ◌%◌, ◌^◌, Bool, cond, not, List, filter, eqb, length}
 use Rattle.bench.specs.declared.Reading.{Reading}
 
 -- a reading compares an expected and a seen word
@@ -16,8 +16,7 @@ differs_in j r = not (eqb (output_of r.expected j) (output_of r.seen j))
 
 -- those of the readings of which it holds
 abbrev pub those : (Reading → Bool) → List Reading → List Reading
-those p [] = []
-those p (r ∷ rs) = cond (p r) (r ∷ those p rs) (those p rs)
+those p rs = filter p rs
 
 -- in how many of these readings output j differed
 abbrev pub times : List Reading → ℕ → ℕ

@@ -1,120 +1,81 @@
-// Whether a log is sound: one function for each test that goes through the entries or the counts.
-ghost use Rattle.std.specs.Prelude.{◌≡◌, ◌≤◌, min, leb, eqb, get_or};
+// Whether a log is sound, and whether it is refused.
+ghost use Rattle.std.specs.Prelude.{◌≡◌, ◌<◌, true, false, sum, leb, eqb, MatchResult};
+ghost use Rattle.std.specs.List.{list_all, enumerate_from};
 ghost use Rattle.basics.specs.Words.{most_outputs};
-ghost use Rattle.verdict.specs.Below.{every, sum_to};
-ghost use Rattle.bench.specs.Readings.{differs};
-ghost use Rattle.bench.specs.Log.{most_entries, blank, sound, refuses};
+ghost use Rattle.bench.specs.Readings.{differs, times};
+ghost use Rattle.bench.specs.Log.{kept_of, sound, refuses};
 
-use crate::counting::counts_of;
-use crate::{ENTRIES, Log, READINGS, Reading};
-use basics::{OUTPUTS, large};
+use crate::{ENTRIES, Log, READINGS};
+use verdict::Refusal;
 
-// Whether the log is not sound, or its readings are at their most.
-pub(crate) fn refused(log: Log) -> bool
-    ensures { result ≡ refuses log }
-{
-    if !is_sound(log) {
-        return true;
-    }
-    let readings = log.readings;
-    readings == READINGS
-}
-
-// Whether the log is sound.
-fn is_sound(log: Log) -> bool
-    ensures { result ≡ sound log }
-{
-    let readings = log.readings;
-    let differing = log.differing;
-    let entries = log.entries;
-    let counts = log.outputs;
-    let many = differing as usize;
-    let kept = log.kept as usize;
-    if kept != most_kept(many) {
-        return false;
-    }
-    if readings < differing {
-        return false;
-    }
-    if !all_differ(entries, kept) {
-        return false;
-    }
-    if !all_within(counts, differing) {
-        return false;
-    }
-    if total(counts) < many {
-        return false;
-    }
-    if ENTRIES < many {
-        return true;
-    }
-    all_equal(counts, counts_of(entries, kept))
-}
-
-// The smaller of the most entries and the differing readings.
-fn most_kept(differing: usize) -> usize
-    ensures { result ≡ min most_entries differing }
-{
-    if differing < ENTRIES {
-        return differing;
-    }
-    ENTRIES
-}
-
-// Whether the words of each of the first entries differ.
-fn all_differ(entries: [Reading; ENTRIES], kept: usize) -> bool
-    requires { kept ≤ most_entries }
-    ensures { result ≡ every kept (λ i. differs (get_or entries i blank)) }
-{
-    let mut i: usize = 0;
-    while i < kept {
-        let entry = entries[i];
-        if entry.expected == entry.seen {
-            return false;
+impl Log {
+    // Refusal 18: the log is not sound, or its readings are at their most.
+    pub(crate) fn check(&self) -> Result<(), Refusal>
+        ensures { MatchResult result (λ _. refuses self.now ≡ false) (λ refusal. (refuses self.now ≡ true) × (refusal ≡ Refusal.UnsoundLog)) }
+    {
+        if !self.is_sound() || self.readings == READINGS {
+            return Err(Refusal::UnsoundLog);
         }
-        i += 1;
+        Ok(())
     }
-    true
-}
 
-// Whether no count is above the differing readings.
-fn all_within(counts: [u32; OUTPUTS], differing: u32) -> bool
-    ensures { result ≡ every most_outputs (λ j. leb (get_or counts j 0) differing) }
-{
-    let mut j: usize = 0;
-    while j < OUTPUTS {
-        if differing < counts[j] {
-            return false;
-        }
-        j += 1;
+    // Whether the log is sound.
+    #[tactic(auto, using(crate::proofs::Chains::sound_by))]
+    fn is_sound(&self) -> bool
+        ensures { result ≡ sound self.now }
+    {
+        let differing = self.differing as usize;
+        self.kept as usize == ENTRIES.min(differing)
+            && self.differing <= self.readings
+            && self.all_differ()
+            && self.all_within()
+            && differing <= self.total()
+            && (ENTRIES < differing || self.all_counted())
     }
-    true
-}
 
-// Whether the counts are the same.
-fn all_equal(counts: [u32; OUTPUTS], others: [u32; OUTPUTS]) -> bool
-    ensures { result ≡ every most_outputs (λ j. eqb (get_or counts j 0) (get_or others j 0)) }
-{
-    let mut j: usize = 0;
-    while j < OUTPUTS {
-        if counts[j] != others[j] {
-            return false;
-        }
-        j += 1;
+    // Whether the words of each entry kept differ.
+    fn all_differ(&self) -> bool
+        ensures { result ≡ list_all differs (kept_of self.now) }
+    {
+        self.entries
+            .iter()
+            .take(self.kept as usize)
+            .all(|entry| entry.differs())
     }
-    true
-}
 
-// The sum of the counts, which may need more than 32 bits.
-fn total(counts: [u32; OUTPUTS]) -> usize
-    ensures { result ≡ sum_to (λ j. get_or counts j 0) most_outputs }
-{
-    let mut sum: usize = 0;
-    let mut j: usize = 0;
-    while j < OUTPUTS {
-        let count = large(counts[j]);
-        sum += count;
-        j += 1;
+    // Whether no count is above the differing readings.
+    fn all_within(&self) -> bool
+        ensures { result ≡ list_all (λ c. leb c self.now.differing) self.now.outputs }
+    {
+        self.outputs.iter().all(|&count| count <= self.differing)
     }
-    sum
+
+    // The sum of the counts, which may need more than 32 bits.
+    fn total(&self) -> usize
+        ensures { result ≡ sum self.now.outputs }
+    {
+        self.outputs.iter().map(|&count| count as usize).sum()
+    }
+
+    // Whether each count is that of the entries kept.
+    fn all_counted(&self) -> bool
+        ensures { result ≡ list_all (λ e. eqb e.1 (times (kept_of self.now) e.0)) (enumerate_from 0 self.now.outputs) }
+    {
+        self.outputs
+            .iter()
+            .enumerate()
+            .all(|(output, &count)| count as usize == self.times(output))
+    }
+
+    // In how many of the entries kept this output differed.
+    fn times(&self, output: usize) -> usize
+        requires { output < most_outputs }
+        ensures { result ≡ times (kept_of self.now) output }
+    {
+        self.entries
+            .iter()
+            .take(self.kept as usize)
+            .filter(|entry| entry.differs_in(output))
+            .count()
+    }
 }

@@ -1,35 +1,25 @@
 -- What a function that reads a part finds, from what those that it calls find: for each, what it finds where they find theirs, and
 -- that it fails, at the same place, where they fail.
+use Rattle.std.specs.Prelude.{◌==◌, eqb, ◌%◌}
+use Rattle.std.specs.List.{prefix_len}
+use Rattle.std.proofs.lemmas.Bool.{eqb-true, eq-eqb, false≢true}
+use Rattle.std.proofs.lemmas.List.Sums.{prefix_len_stops}
+use Rattle.std.proofs.lemmas.List.{drop-drop, get_or-drop, length-replicate}
 use Prim.Native.Nat.{ℕ, suc, ◌+◌, ◌≤◌, ◌<◌}
 use Prim.Native.Char.{code}
-use mathlib.Core.Path.{◌≡◌, refl, sym, ap, subst, ◌∙◌}
-use mathlib.Core.Bool.{Bool, true, false, not, beq}
+use mathlib.Core.Path.{◌≡◌, refl, sym, ap, ap₂, subst, ◌∙◌}
+use mathlib.Core.Bool.{Bool, true, false, not, beq, cond}
 use mathlib.Core.List.{List, [], ◌∷◌, ◌++◌, append_assoc, append-nil}
 use native.Mathlib.Omega.{arith}
-use lib.ListN.{length, take, drop, get_or, length-append, length-drop, drop_of_length-le}
+use lib.ListN.{length, take, drop, replicate, get_or, length-append, length-drop, drop_of_length-le}
 use lib.Seq.{take-append-add, take-append_seam}
 use Rattle.machine.specs.Limits.{most_inputs}
-use Rattle.condition.specs.Grammar.{Level, Join, or, and, factor, joined, part, byte, joins, condition, Tree, off, text, holds, opened, Below}
-use Rattle.condition.specs.inner.Parts.{At, Ends, NotFirst, Reading, Skipped, flipped, Found, reads, stops, FoundTo, Failed, FailedAt}
-use Rattle.condition.specs.declared.Part.{Part}
-use Rattle.condition.specs.declared.Part.TheVariants.{Value, Bad}
+use Rattle.machine.specs.Couples.{input as input_of}
+use Rattle.condition.specs.Grammar.{Level, Join, or, and, factor, joined, part, byte, joins, condition, Tree, one, off, on, input, text, holds, opened, Below}
+use Rattle.condition.specs.inner.Parts.{At, Ends, NotFirst, Reading, FoundTo, Failed, FailedAt}
 use Rattle.condition.proofs.Trees.{same, close_ends}
-use Rattle.condition.proofs.Lists.{front, at_front, not_front, agree_front, none_same, first_same, ends_same, not_first_same}
-use Rattle.condition.proofs.Readings.{nothing, enclosed, inside, no_single, of_same, before, alone, first, Passed, passed_more}
-
--- what was found, where the answer is known
-module _ {l : Level} {n v d : ℕ} {s : List ℕ} {at : ℕ} where
-  found_value : {b : Bool} {end : ℕ} → Found l n v d s at (Value b end) → FoundTo l n v d s at b end
-  found_value (reads x) = x
-
-  found_bad : {place : ℕ} → Found l n v d s at (Bad place) → FailedAt l n d s at place
-  found_bad (stops x) = x
-
-  pub is_value : {p : Part} {b : Bool} {end : ℕ} → p ≡ Value b end → Found l n v d s at p → FoundTo l n v d s at b end
-  is_value e f = found_value (subst (Found l n v d s at) e f)
-
-  pub is_bad : {p : Part} {place : ℕ} → p ≡ Bad place → Found l n v d s at p → FailedAt l n d s at place
-  is_bad e f = found_bad (subst (Found l n v d s at) e f)
+use Rattle.condition.proofs.Lists.{at_front, not_front, agree_front, none_same, first_same, ends_same, not_first_same}
+use Rattle.condition.proofs.Readings.{nothing, enclosed, inside, no_single, of_same, before, alone, first, wrap, wrap_says, strip, chain_says, chained, split}
 
 -- where a part that was found ends
 pub span : {l : Level} {n v d : ℕ} {s : List ℕ} {at : ℕ} {b : Bool} {end : ℕ} (x : FoundTo l n v d s at b end) → end ≡ at + length (text x.reading.tree)
@@ -75,54 +65,83 @@ pub end_fails : {n d : ℕ} (s : List ℕ) (at : ℕ) → length s ≤ at → Fa
 end_fails s at h = fails_here s at (λ w r e x. nothing (none_same w e (drop_of_length-le s h)) x)
 
 -- one character
-module _ {n : ℕ} (s : List ℕ) (at : ℕ) (h : at < length s) where
-  pub single_found : {v d : ℕ} {b : Bool} (t : Tree factor) → text t ≡ get_or s at 0 ∷ [] → opened t ≡ 0 → Below n t → holds v t ≡ b
+module _ {n : ℕ} {s : List ℕ} {at c : ℕ} (here : At s at c) where
+  single_found : {v d : ℕ} {b : Bool} (t : Tree factor) → text t ≡ c ∷ [] → opened t ≡ 0 → Below n t → holds v t ≡ b
       → FoundTo factor n v d s at b (at + 1)
   single_found t spelt nested known says = record {
     later = omega arith;
-    within = omega arith;
+    within = omega (arith, here.within);
     ends = tt;
     reading = record {
       tree = t;
-      spelt = front s at h ∙ ap (◌++ drop (at + 1) s) (sym spelt);
+      spelt = at_front here ∙ ap (◌++ drop (at + 1) s) (sym spelt);
       nested = omega (arith, nested);
       known = known;
     };
     value = says;
   }
 
-  pub single_fails : {d : ℕ} → (At s at (code "!") → ⊥) × (At s at (code "(") → ⊥) → (get_or s at 0 ≡ code "0" → ⊥) → (get_or s at 0 ≡ code "1" → ⊥)
-      → ((k : ℕ) → (k < n) × (k < most_inputs) → get_or s at 0 ≡ code "a" + k → ⊥) → FailedAt factor n d s at at
-  single_fails bare off-not on-not letter-not =
+  pub off_found : {v d : ℕ} → c ≡ code "0" → FoundTo factor n v d s at false (at + 1)
+  unfolding text opened Below holds
+  off_found e = single_found off (ap (◌∷ []) (sym e)) refl tt refl
+
+  pub on_found : {v d : ℕ} → c ≡ code "1" → FoundTo factor n v d s at true (at + 1)
+  unfolding text opened Below holds
+  on_found e = single_found on (ap (◌∷ []) (sym e)) refl tt refl
+
+  pub input_found : {v d : ℕ} (k : ℕ) → c ≡ code "a" + k → (k < n) × (k < most_inputs) → FoundTo factor n v d s at (eqb (input_of v k) 1) (at + 1)
+  unfolding text opened Below holds
+  input_found k e h = single_found (input k) (ap (◌∷ []) (sym e)) refl h refl
+
+  pub single_fails : {d : ℕ} → (At s at (code "!") → ⊥) → (c ≡ code "(" → ⊥) → (c ≡ code "0" → ⊥) → (c ≡ code "1" → ⊥)
+      → ((k : ℕ) → (k < n) × (k < most_inputs) → c ≡ code "a" + k → ⊥) → FailedAt factor n d s at at
+  single_fails bang-not open-not off-not on-not letter-not =
       fails_here s at (λ w r e x.
-      no_single (λ e. bare.0 (record { within = h; is = e })) (λ e. bare.1 (record { within = h; is = e })) off-not on-not letter-not
-      x.tree r (sym (first_same w e (front s at h)).1 ∙ x.spelt) x.known)
+      no_single (λ q. bang-not (record { within = here.within; is = here.is ∙ q })) open-not off-not on-not letter-not
+      x.tree r (sym (first_same w e (at_front here)).1 ∙ x.spelt) x.known)
+
+-- the `!` that a list begins with
+abbrev pub leading : List ℕ → ℕ
+leading w = prefix_len (λ c. c == code "!") w
+
+leads_more : (c : ℕ) (w : List ℕ) (b : Bool) → eqb c (code "!") ≡ b → w ≡ replicate (leading w) (code "!") ++ drop (leading w) w
+    → c ∷ w ≡ replicate (cond b (1 + leading w) 0) (code "!") ++ drop (cond b (1 + leading w) 0) (c ∷ w)
+leads_more c w true e h =
+    let one : suc (leading w) ≡ 1 + leading w = omega arith in
+    subst (λ (k : ℕ). c ∷ w ≡ replicate k (code "!") ++ drop k (c ∷ w)) one (ap₂ ◌∷◌ (eqb-true c (code "!") e) h)
+leads_more c w false e h = refl
+
+leads : (w : List ℕ) → w ≡ replicate (leading w) (code "!") ++ drop (leading w) w
+leads [] = refl
+leads (c ∷ w) = leads_more c w (eqb c (code "!")) refl (leads w)
+
+spelt : (s : List ℕ) (at k : ℕ) → k ≡ leading (drop at s) → drop at s ≡ replicate k (code "!") ++ drop (at + k) s
+spelt s at k is = subst (λ (i : ℕ). drop at s ≡ replicate i (code "!") ++ drop i (drop at s)) (sym is) (leads (drop at s)) ∙ ap (replicate k (code "!") ++◌) (drop-drop k at s)
+
+-- behind them stands none
+pub behind : (s : List ℕ) (at k : ℕ) → k ≡ leading (drop at s) → At s (at + k) (code "!") → ⊥
+behind s at k is h =
+    let l : leading (drop at s) < length (drop at s) = simp length-drop (omega (arith, h.within)) in
+    let e : get_or (drop at s) (leading (drop at s)) 0 ≡ code "!" = get_or-drop at s (leading (drop at s)) 0 ∙ ap (λ (i : ℕ). get_or s (at + i) 0) (sym is) ∙ h.is in
+    false≢true (sym (prefix_len_stops (λ c. c == code "!") (drop at s) 0 l) ∙ eq-eqb _ _ e)
 
 -- a factor behind `!`
-not_same : (f b : Bool) → flipped f b ≡ not (beq f b)
-not_same true true = refl
-not_same true false = refl
-not_same false true = refl
-not_same false false = refl
-
-module _ {n d : ℕ} {s : List ℕ} {at from : ℕ} {negates : Bool} (k : Skipped s at negates from) where
-  pub negated_found : {v : ℕ} {b : Bool} {end : ℕ} → FoundTo factor n v d s from b end → FoundTo factor n v d s at (not (beq negates b)) end
+module _ {n d : ℕ} {s : List ℕ} {at k : ℕ} (is : k ≡ leading (drop at s)) where
+  pub negated_found : {v : ℕ} {b : Bool} {end : ℕ} → FoundTo factor n v d s (at + k) b end → FoundTo factor n v d s at (not (beq b (eqb (k % 2) 1))) end
   unfolding of_same
-  negated_found {v} {b} {end} x =
-      let y = k.wrap n v d (drop from s) (drop end s) x.reading in
-      record {
-        later = omega (arith, x.later, k.count);
-        within = x.within;
-        ends = tt;
-        reading = of_same k.spelt refl y.0;
-        value = y.1 ∙ ap (flipped negates) x.value ∙ not_same negates b;
-      }
+  negated_found {v} {b} {end} x = record {
+    later = omega (arith, x.later);
+    within = x.within;
+    ends = tt;
+    reading = of_same (spelt s at k is) refl (wrap k x.reading);
+    value = wrap_says k v x.reading ∙ ap (λ (c : Bool). not (beq c (eqb (k % 2) 1))) x.value;
+  }
 
-  pub negated_fails : {place : ℕ} → FailedAt factor n d s from place → FailedAt factor n d s at place
+  pub negated_fails : {place : ℕ} → FailedAt factor n d s (at + k) place → FailedAt factor n d s at place
   negated_fails f = record {
-    passed = length k.bangs + f.passed;
-    count = omega (arith, k.count, f.count);
-    failed = fails_same k.spelt (fails_behind k.bangs (λ u r x. (k.wrap n 0 d u r x).0) (λ u r h x. k.strip n d u r x) f.failed);
+    passed = length (replicate k (code "!")) + f.passed;
+    count = omega (arith, f.count, length-replicate k (code "!"));
+    failed = fails_same (spelt s at k is) (fails_behind (replicate k (code "!")) (λ u r x. wrap k x) (λ u r h x. strip k x) f.failed);
   }
 
 -- a condition in parentheses: closed, failing inside them, not closed, and a parenthesis too many
@@ -182,31 +201,54 @@ module _ {n d : ℕ} {s : List ℕ} {at : ℕ} (here : At s at (code "(")) where
           });
         }
 
--- a join: its last part, one more part, and a part that fails
+-- parts joined by j, at least one, stand from `at` to `end`, where the last of them ends, and they say b
+pub record Joined (j : Join) (n v d : ℕ) (s : List ℕ) (at : ℕ) (b : Bool) (end : ℕ) : Type 0 where
+  pub later : at < end
+  pub within : end ≤ length s
+  pub ends : Ends (part j) (drop end s)
+  pub reading : Reading (joined j) n d (drop at s) (drop end s)
+  pub value : holds v reading.tree ≡ b
+
+joined_span : {j : Join} {n v d : ℕ} {s : List ℕ} {at : ℕ} {b : Bool} {end : ℕ} (x : Joined j n v d s at b end) → end ≡ at + length (text x.reading.tree)
+joined_span x = omega (arith, simp (length-append, length-drop) at (ap length x.reading.spelt), x.later, x.within)
+
 ends_both : (j : Join) (r : List ℕ) → Ends (part j) r → NotFirst (byte j) r → Ends (joined j) r
 ends_both or r e h = (e, h)
 ends_both and r e h = h
 
-module _ (j : Join) {n v d : ℕ} {s : List ℕ} {at from : ℕ} {acc : Bool} (p : Passed j n v d s at from acc) where
-  pub join_found : {b : Bool} {end : ℕ} → FoundTo (part j) n v d s from b end → (At s end (byte j) → ⊥) → FoundTo (joined j) n v d s at (joins j acc b) end
-  unfolding holds alone of_same
-  join_found {b} {end} x ne =
-      let y = p.extend (drop from s) (drop end s) (alone x.reading) in
-      record {
-        later = omega (arith, x.later, p.count);
-        within = x.within;
-        ends = ends_both j (drop end s) x.ends (not_front ne);
-        reading = of_same p.spelt refl y.0;
-        value = y.1 ∙ ap (joins j acc) x.value;
-      }
+-- a join: its first part, one more part, its last part, and a part that fails
+module _ (j : Join) {n d : ℕ} {s : List ℕ} {at : ℕ} where
+  pub join_first : {v : ℕ} {b : Bool} {end : ℕ} → FoundTo (part j) n v d s at b end → Joined j n v d s at b end
+  unfolding holds alone
+  join_first x = record { later = x.later; within = x.within; ends = x.ends; reading = alone x.reading; value = x.value }
 
-  pub join_more : {b : Bool} {end : ℕ} → FoundTo (part j) n v d s from b end → At s end (byte j) → Passed j n v d s at (end + 1) (joins j acc b)
-  unfolding of_same
-  join_more x h = passed_more j p (of_same refl (at_front h) x.reading) x.value (span x)
+  pub join_none : {place : ℕ} → FailedAt (part j) n d s at place → FailedAt (joined j) n d s at place
+  join_none f = record { passed = f.passed; count = f.count; failed = part_fails j f.failed }
 
-  pub join_fails : {place : ℕ} → FailedAt (part j) n d s from place → FailedAt (joined j) n d s at place
-  join_fails f = record {
-    passed = length p.front + f.passed;
-    count = omega (arith, p.count, f.count);
-    failed = fails_same p.spelt (fails_behind p.front (λ u r x. (p.extend u r x).0) p.split (part_fails j f.failed));
-  }
+  module _ {v : ℕ} {b : Bool} {end : ℕ} (x : Joined j n v d s at b end) where
+    pub join_found : (At s end (byte j) → ⊥) → FoundTo (joined j) n v d s at b end
+    join_found ne = record { later = x.later; within = x.within; ends = ends_both j (drop end s) x.ends (not_front ne); reading = x.reading; value = x.value }
+
+    pub join_more : {b' : Bool} {end' : ℕ} → At s end (byte j) → FoundTo (part j) n v d s (end + 1) b' end' → Joined j n v d s at (joins j b b') end'
+    unfolding holds alone of_same chained
+    join_more {b'} {end'} h y = record {
+      later = omega (arith, x.later, y.later);
+      within = y.within;
+      ends = y.ends;
+      reading = chained (of_same refl (at_front h) x.reading) (alone y.reading);
+      value = chain_says v x.reading.tree (one y.reading.tree) ∙ ap₂ (joins j) x.value y.value;
+    }
+
+    pub join_fails : {place : ℕ} → At s end (byte j) → FailedAt (part j) n d s (end + 1) place → FailedAt (joined j) n d s at place
+    unfolding before
+    join_fails h f =
+        let t = text x.reading.tree in
+        let snoc : (u : List ℕ) → (t ++ byte j ∷ []) ++ u ≡ t ++ byte j ∷ u = λ u. append_assoc t (byte j ∷ []) u in
+        record {
+          passed = length (t ++ byte j ∷ []) + f.passed;
+          count = omega (arith, f.count, joined_span x, length-append t (byte j ∷ []));
+          failed = fails_same (x.reading.spelt ∙ ap (t ++◌) (at_front h) ∙ sym (snoc (drop (end + 1) s))) (fails_behind (t ++ byte j ∷ [])
+              (λ u r y. of_same (snoc u) refl (chained (before x.reading (byte j ∷ u)) y))
+              (λ u r e y. split x.reading.tree u y.tree r e (sym (snoc u) ∙ y.spelt) y.nested y.known)
+              (part_fails j f.failed));
+        }

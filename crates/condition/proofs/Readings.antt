@@ -1,16 +1,16 @@
 -- How a reading of a part is made of readings of its own parts, and taken apart again: `!`, parentheses, one character, and a loop over
 -- what a join joins. By the grammar's cases; that the parts are the same ones is `same`.
-use Prim.Native.Nat.{ℕ, suc, ◌+◌, ◌≤◌, ◌<◌}
+use Prim.Native.Nat.{ℕ, zero, suc, ◌+◌, ◌≤◌, ◌<◌}
 use Prim.Native.Char.{code}
+use lib.ListN.{replicate}
 use mathlib.Core.Path.{◌≡◌, refl, sym, ap, ◌∙◌}
-use mathlib.Core.Bool.{Bool, true, false, not}
+use Rattle.std.specs.Prelude.{eqb, ◌%◌}
+use mathlib.Core.Bool.{Bool, true, false, not, beq, not-not}
 use mathlib.Core.List.{List, [], ◌∷◌, ◌++◌, append_assoc, head-eq_of_cons-eq, tail-eq_of_cons-eq}
 use native.Mathlib.Omega.{arith}
-use lib.ListN.{length, drop, length-append}
 use Rattle.machine.specs.Limits.{most_inputs}
 use Rattle.condition.specs.Grammar.{Level, Join, or, and, factor, joined, part, byte, joins, condition, Tree, one, more, bang, paren, off, on, input, text, opened, Below, holds}
-use Rattle.condition.specs.inner.Parts.{At, Ends, Reading, Skipped, flipped}
-use Rattle.condition.proofs.Lists.{at_front}
+use Rattle.condition.specs.inner.Parts.{Ends, Reading}
 use Rattle.condition.proofs.Texts.{some}
 use Rattle.condition.proofs.Trees.{same, ends_part, ends_join, join_ends}
 
@@ -27,7 +27,7 @@ unfoldable pub before : {l : Level} {n d : ℕ} {w r : List ℕ} (x : Reading l 
 before x u = record { tree = x.tree; spelt = refl; nested = x.nested; known = x.known }
 
 -- `!`: a factor behind one
-banged : {n d : ℕ} {w r : List ℕ} → Reading factor n d w r → Reading factor n d (code "!" ∷ w) r
+unfoldable pub banged : {n d : ℕ} {w r : List ℕ} → Reading factor n d w r → Reading factor n d (code "!" ∷ w) r
 unfolding text opened Below
 banged x = record { tree = bang x.tree; spelt = ap (code "!" ∷◌) x.spelt; nested = x.nested; known = x.known }
 
@@ -39,31 +39,31 @@ unbang off r e o b = absurd (omega (arith, head-eq_of_cons-eq e))
 unbang on r e o b = absurd (omega (arith, head-eq_of_cons-eq e))
 unbang (input k) r e o b = absurd (omega (arith, head-eq_of_cons-eq e))
 
-flipped_not : (f b : Bool) → flipped f (not b) ≡ flipped (not f) b
-flipped_not true true = refl
-flipped_not true false = refl
-flipped_not false b = refl
+-- k of them before a factor
+unfoldable pub wrap : (k : ℕ) {n d : ℕ} {w r : List ℕ} → Reading factor n d w r → Reading factor n d (replicate k (code "!") ++ w) r
+wrap zero x = x
+wrap (suc k) x = banged (wrap k x)
 
-module _ {s : List ℕ} {at : ℕ} where
-  pub bang_none : Skipped s at false at
-  bang_none = record { bangs = []; count = omega arith; spelt = refl; wrap = λ n v d u r x. (x, refl); strip = λ n d u r x. x }
+even : (b : Bool) → b ≡ not (beq b false)
+even true = refl
+even false = refl
 
-  pub bang_more : {end : ℕ} {negates : Bool} → Skipped s at negates end → At s end (code "!") → Skipped s at (not negates) (end + 1)
-  unfolding holds banged of_same
-  bang_more {end} {negates} k here =
-      let b = k.bangs in
-      let snoc : (u : List ℕ) → (b ++ code "!" ∷ []) ++ u ≡ b ++ code "!" ∷ u = λ u. append_assoc b (code "!" ∷ []) u in
-      record {
-        bangs = b ++ code "!" ∷ [];
-        count = simp length-append (omega (arith, k.count));
-        spelt = k.spelt ∙ ap (b ++◌) (at_front here) ∙ sym (snoc (drop (end + 1) s));
-        wrap = λ n v d u r x.
-            let y = k.wrap n v d (code "!" ∷ u) r (banged x) in
-            (of_same (snoc u) refl y.0, y.1 ∙ flipped_not negates (holds v x.tree));
-        strip = λ n d u r x.
-            let y = k.strip n d (code "!" ∷ u) r (of_same (sym (snoc u)) refl x) in
-            unbang y.tree r y.spelt y.nested y.known;
-      }
+odd : (b : Bool) → not b ≡ not (beq b true)
+odd true = refl
+odd false = refl
+
+pub wrap_says : (k v : ℕ) {n d : ℕ} {w r : List ℕ} (x : Reading factor n d w r)
+    → holds v (wrap k x).tree ≡ not (beq (holds v x.tree) (eqb (k % 2) 1))
+unfolding holds wrap banged
+wrap_says zero v x = even (holds v x.tree)
+wrap_says (suc zero) v x = odd (holds v x.tree)
+wrap_says (suc (suc k)) v x =
+    let e : k % 2 ≡ suc (suc k) % 2 = omega arith in
+    not-not (holds v (wrap k x).tree) ∙ wrap_says k v x ∙ ap (λ (i : ℕ). not (beq (holds v x.tree) (eqb i 1))) e
+
+pub strip : (k : ℕ) {n d : ℕ} {w r : List ℕ} → Reading factor n d (replicate k (code "!") ++ w) r → Reading factor n d w r
+strip zero x = x
+strip (suc k) {r = r} x = strip k (unbang x.tree r x.spelt x.nested x.known)
 
 -- parentheses: a condition between them, at one more open
 unfoldable pub enclosed : {n d d' : ℕ} {w r : List ℕ} → suc d' ≤ d → Reading condition n d' w (code ")" ∷ r) → Reading factor n d (code "(" ∷ w) r
@@ -103,15 +103,6 @@ unfoldable pub alone : {j : Join} {n d : ℕ} {w r : List ℕ} → Reading (part
 unfolding text opened Below
 alone x = record { tree = one x.tree; spelt = x.spelt; nested = x.nested; known = x.known }
 
-followed : {j : Join} {n d : ℕ} {w w' r : List ℕ} → Reading (part j) n d w (byte j ∷ w') → Reading (joined j) n d w' r → Reading (joined j) n d w r
-unfolding text opened Below
-followed {j} {r = r} x y = record {
-  tree = more x.tree y.tree;
-  spelt = x.spelt ∙ ap (λ (u : List ℕ). text x.tree ++ byte j ∷ u) y.spelt ∙ sym (append_assoc (text x.tree) (byte j ∷ text y.tree) r);
-  nested = omega (arith, x.nested, y.nested);
-  known = (x.known, y.known);
-}
-
 -- what a reading of a join begins with, and what is left behind that
 pub first : {j : Join} {n d : ℕ} {w : List ℕ} (t : Tree (joined j)) (r : List ℕ) → Ends (joined j) r → w ≡ text t ++ r → opened t ≤ d → Below n t
     → (r' : List ℕ) × Ends (part j) r' × Reading (part j) n d w r'
@@ -121,25 +112,15 @@ first {j} (more t u) r h e o b =
     let e' = e ∙ append_assoc (text t) (byte j ∷ text u) r in
     (byte j ∷ text u ++ r, join_ends j (text u ++ r), record { tree = t; spelt = e'; nested = omega arith; known = b.0 })
 
-rest : {j : Join} {n d : ℕ} {w w' : List ℕ} (x : Reading (part j) n d w (byte j ∷ w')) (t : Tree (joined j)) (r : List ℕ) → Ends (joined j) r
-    → w ≡ text t ++ r → opened t ≤ d → Below n t → Reading (joined j) n d w' r
+rest : {j : Join} {n d : ℕ} (x : Tree (part j)) (w : List ℕ) (t : Tree (joined j)) (r : List ℕ) → Ends (joined j) r
+    → text x ++ byte j ∷ w ≡ text t ++ r → opened t ≤ d → Below n t → Reading (joined j) n d w r
 unfolding text opened Below
-rest {j} {w' = w'} x (one t) r h e o b =
-    let q = same x.tree t (byte j ∷ w') r (join_ends j w') (ends_part j r h) (sym x.spelt ∙ e) in
-    absurd (ends_join j r h w' (sym q.1))
-rest {j} {w' = w'} x (more t u) r h e o b =
-    let e' = sym x.spelt ∙ e ∙ append_assoc (text t) (byte j ∷ text u) r in
-    let q = same x.tree t (byte j ∷ w') (byte j ∷ text u ++ r) (join_ends j w') (join_ends j (text u ++ r)) e' in
+rest {j} x w (one t) r h e o b =
+    let q = same x t (byte j ∷ w) r (join_ends j w) (ends_part j r h) e in
+    absurd (ends_join j r h w (sym q.1))
+rest {j} x w (more t u) r h e o b =
+    let q = same x t (byte j ∷ w) (byte j ∷ text u ++ r) (join_ends j w) (join_ends j (text u ++ r)) (e ∙ append_assoc (text t) (byte j ∷ text u) r) in
     record { tree = u; spelt = tail-eq_of_cons-eq q.1; nested = omega arith; known = b.1 }
-
--- what a join says where nothing stands before it
-abbrev unit : Join → Bool
-unit or = false
-unit and = true
-
-joins_unit : (j : Join) (b : Bool) → b ≡ joins j (unit j) b
-joins_unit or b = refl
-joins_unit and b = refl
 
 joins_assoc : (j : Join) (a b c : Bool) → joins j a (joins j b c) ≡ joins j (joins j a b) c
 joins_assoc or true b c = refl
@@ -147,35 +128,47 @@ joins_assoc or false b c = refl
 joins_assoc and true b c = refl
 joins_assoc and false b c = refl
 
--- a loop over the parts of a join, from `at` on, stands at `from`, behind the characters `front`: what is read behind them makes a
--- reading with them, which says what they say, `acc`, joined to what it says; and each reading that begins with them is made so
-pub record Passed (j : Join) (n v d : ℕ) (s : List ℕ) (at from : ℕ) (acc : Bool) : Type 0 where
-  pub front : List ℕ
-  pub count : from ≡ at + length front
-  pub spelt : drop at s ≡ front ++ drop from s
-  pub extend : (u r : List ℕ) (x : Reading (joined j) n d u r) → (y : Reading (joined j) n d (front ++ u) r) × (holds v y.tree ≡ joins j acc (holds v x.tree))
-  pub split : (u r : List ℕ) → Ends (joined j) r → Reading (joined j) n d (front ++ u) r → Reading (joined j) n d u r
+-- two joins, one behind the other, as one
+unfoldable pub chain : {j : Join} → Tree (joined j) → Tree (joined j) → Tree (joined j)
+chain (one t) y = more t y
+chain (more t x) y = more t (chain x y)
 
-module _ (j : Join) {n v d : ℕ} {s : List ℕ} {at : ℕ} where
-  pub passed_none : Passed j n v d s at at (unit j)
-  passed_none = record { front = []; count = omega arith; spelt = refl; extend = λ u r x. (x, joins_unit j (holds v x.tree)); split = λ u r h x. x }
+module _ {j : Join} where
+  pub chain_text : (x y : Tree (joined j)) → text (chain x y) ≡ text x ++ byte j ∷ text y
+  unfolding text chain
+  chain_text (one t) y = refl
+  chain_text (more t x) y = ap (λ (u : List ℕ). text t ++ byte j ∷ u) (chain_text x y) ∙ sym (append_assoc (text t) (byte j ∷ text x) (byte j ∷ text y))
 
-  pub passed_more : {from end : ℕ} {acc b : Bool} → Passed j n v d s at from acc → (x : Reading (part j) n d (drop from s) (byte j ∷ drop (end + 1) s))
-      → holds v x.tree ≡ b → end ≡ from + length (text x.tree) → Passed j n v d s at (end + 1) (joins j acc b)
-  unfolding holds followed of_same before
-  passed_more {end = end} {acc} {b} p x e h =
-      let f = p.front in
-      let t = text x.tree in
-      let snoc : (u : List ℕ) → (f ++ (t ++ byte j ∷ [])) ++ u ≡ f ++ (t ++ byte j ∷ u) =
-      λ u. append_assoc f (t ++ byte j ∷ []) u ∙ ap (f ++◌) (append_assoc t (byte j ∷ []) u) in
-      record {
-        front = f ++ (t ++ byte j ∷ []);
-        count = simp length-append (omega (arith, p.count));
-        spelt = p.spelt ∙ ap (f ++◌) x.spelt ∙ sym (snoc (drop (end + 1) s));
-        extend = λ u r y.
-            let z = p.extend (t ++ byte j ∷ u) r (followed (before x (byte j ∷ u)) y) in
-            (of_same (snoc u) refl z.0, z.1 ∙ ap (λ (c : Bool). joins j acc (joins j c (holds v y.tree))) e ∙ joins_assoc j acc b (holds v y.tree));
-        split = λ u r h' y.
-            let z = p.split (t ++ byte j ∷ u) r h' (of_same (sym (snoc u)) refl y) in
-            rest (before x (byte j ∷ u)) z.tree r h' z.spelt z.nested z.known;
-      }
+  pub chain_opened : {d : ℕ} (x y : Tree (joined j)) → opened x ≤ d → opened y ≤ d → opened (chain x y) ≤ d
+  unfolding opened chain
+  chain_opened (one t) y h k = omega arith
+  chain_opened (more t x) y h k = let q = chain_opened x y (omega arith) k in omega arith
+
+  pub chain_known : (n : ℕ) (x y : Tree (joined j)) → Below n x → Below n y → Below n (chain x y)
+  unfolding Below chain
+  chain_known n (one t) y h k = (h, k)
+  chain_known n (more t x) y h k = (h.0, chain_known n x y h.1 k)
+
+  pub chain_says : (v : ℕ) (x y : Tree (joined j)) → holds v (chain x y) ≡ joins j (holds v x) (holds v y)
+  unfolding holds chain
+  chain_says v (one t) y = refl
+  chain_says v (more t x) y = ap (joins j (holds v t)) (chain_says v x y) ∙ joins_assoc j (holds v t) (holds v x) (holds v y)
+
+  -- a reading of each, and of what is behind the first, from one of both
+  unfoldable pub chained : {n d : ℕ} {w w' r : List ℕ} → Reading (joined j) n d w (byte j ∷ w') → Reading (joined j) n d w' r → Reading (joined j) n d w r
+  chained {r = r} x y = record {
+    tree = chain x.tree y.tree;
+    spelt =
+        x.spelt ∙ ap (λ (u : List ℕ). text x.tree ++ byte j ∷ u) y.spelt ∙ sym (append_assoc (text x.tree) (byte j ∷ text y.tree) r)
+        ∙ ap (◌++ r) (sym (chain_text x.tree y.tree));
+    nested = chain_opened x.tree y.tree x.nested y.nested;
+    known = chain_known _ x.tree y.tree x.known y.known;
+  }
+
+  pub split : {n d : ℕ} (x : Tree (joined j)) (w : List ℕ) (t : Tree (joined j)) (r : List ℕ) → Ends (joined j) r
+      → text x ++ byte j ∷ w ≡ text t ++ r → opened t ≤ d → Below n t → Reading (joined j) n d w r
+  unfolding text
+  split (one x) w t r h e o b = rest x w t r h e o b
+  split (more x y) w t r h e o b =
+      let z = rest x (text y ++ byte j ∷ w) t r h (sym (append_assoc (text x) (byte j ∷ text y) (byte j ∷ w)) ∙ e) o b in
+      split y w z.tree r h z.spelt z.nested z.known

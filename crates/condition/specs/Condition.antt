@@ -1,10 +1,9 @@
 -- Document 01, "Conditions", and document 02, ticket 4: when a text reads, what it says, and which character is wrong in one that does
 -- not read. Assumes nothing: these are definitions.
-use Rattle.std.specs.Prelude.{ℕ, ◌+◌, ◌≤◌, ◌≡◌, List, ◌++◌, true, length, take}
+use Rattle.std.specs.Prelude.{ℕ, ◌+◌, ◌≤◌, ◌≡◌, List, ◌++◌, Bool, true, length, take, Result, Ok, Err}
 use Rattle.verdict.specs.Checks.{Least}
 use Rattle.condition.specs.Grammar.{condition, Tree, text, opened, Below, holds}
-use Rattle.condition.specs.declared.Meaning.{Meaning}
-use Rattle.condition.specs.declared.Meaning.TheVariants.{Is, Unread}
+use Rattle.condition.specs.declared.Unread.{Unread}
 
 -- there are at most 8 parentheses open at any place
 abbrev pub parentheses : ℕ
@@ -34,15 +33,15 @@ pub data CharacterOf (n : ℕ) (w : List ℕ) : ℕ → Type 0 where
   early : CanBeContinued n w → (Reads n w → ⊥) → CharacterOf n w (length w + 1)
 
 -- the number of each answer: 0 is success, 5 a condition that does not read; and its character, 0 with success
-abbrev pub number_of : Meaning → ℕ
-number_of (Is b) = 0
-number_of (Unread k) = 5
+abbrev pub number_of : Result Bool Unread → ℕ
+number_of (Ok b) = 0
+number_of (Err u) = 5
 
-abbrev pub character_of : Meaning → ℕ
-character_of (Is b) = 0
-character_of (Unread k) = k
+abbrev pub character_of : Result Bool Unread → ℕ
+character_of (Ok b) = 0
+character_of (Err u) = u.character
 
 -- m is what w says at the setting v: 0, and what its condition says there; or 5, and the character of w
-pub record Says (n v : ℕ) (w : List ℕ) (m : Meaning) : Type 0 where
-  pub value : number_of m ≡ 0 → (x : Reads n w) × (m ≡ Is (holds v x.tree))
+pub record Says (n v : ℕ) (w : List ℕ) (m : Result Bool Unread) : Type 0 where
+  pub value : number_of m ≡ 0 → (x : Reads n w) × (m ≡ Ok (holds v x.tree))
   pub unread : number_of m ≡ 5 → CharacterOf n w (character_of m)

@@ -1,55 +1,72 @@
 // Conditions (document 01): what a text says at a setting, read at a number of inputs, or which character is wrong in it.
 //
-// One function for each level of the grammar. Each reads the part that begins at `at`, where `opened` parentheses are open, and
-// loops over what its level joins; the levels come round again only inside a parenthesis.
+// Each method of a reader reads the part that begins at `at`, one for each level of the grammar, and one loop for both joins; the levels
+// come round again only inside a parenthesis.
 #![tactic(auto)]
 
-ghost use Rattle.std.specs.Prelude.{ℕ, ◌-◌};
+ghost use Rattle.std.specs.Prelude.{◌≡◌, ◌+◌, ◌==◌, drop};
+ghost use Rattle.std.specs.List.{prefix_len};
 ghost use Rattle.verdict.specs.Checks.{Decides};
-ghost use Rattle.condition.specs.Grammar.{condition as condition_level, term as term_level, factor as factor_level};
-ghost use Rattle.condition.specs.Condition.{parentheses, Says, Holds};
-ghost use Rattle.condition.specs.inner.Parts.{code, At, Skipped, Found};
-
-use basics::wide;
-use machine::INPUTS;
+ghost use Rattle.condition.specs.Grammar.{factor as factor_level, joined as joined_level, byte as byte_of, joins};
+ghost use Rattle.condition.specs.Condition.{Says, Holds};
+ghost use Rattle.condition.specs.inner.Parts.{code, At, join_of, level_of, Found};
 
 // The most parentheses open at any place.
 pub const PARENTHESES: usize = 8;
 
-// What a text says: whether its condition holds; or that it does not read, and at which character, counted from 1.
-#[derive(Clone, Copy)]
-pub enum Meaning {
-    Is(bool),
-    Unread(usize),
+// A text does not read, and this character of it is wrong, counted from 1.
+#[derive(Clone, Copy, Debug, PartialEq, Eq)]
+pub struct Unread {
+    pub character: usize,
 }
 
-// What reading a part found: whether it holds, and where it ends; or the place of the character that it cannot go on with.
+// A part that was read: whether it holds, and where it ends.
 #[derive(Clone, Copy)]
-enum Part {
-    Value(bool, usize),
-    Bad(usize),
-}
-
-// Whether the `!` before a factor negate it, and where they end.
-#[derive(Clone, Copy)]
-struct Negation {
-    negates: bool,
+struct Part {
+    holds: bool,
     end: usize,
 }
 
+// The place of the character that a part cannot go on with.
+#[derive(Clone, Copy)]
+struct Stop {
+    place: usize,
+}
+
+// What joins parts: `+` terms to a condition, and `.` factors to a term.
+#[derive(Clone, Copy)]
+enum Join {
+    Or,
+    And,
+}
+
+// The text, what it is read at, and how many parentheses are open.
+#[derive(Clone, Copy)]
+struct Reader<'a> {
+    text: &'a [u8],
+    inputs: usize,
+    setting: usize,
+    opened: usize,
+}
+
 // What the text says at the setting, read at this number of inputs.
-pub fn read(text: &[u8], inputs: usize, setting: usize) -> Meaning
+pub fn read(text: &[u8], inputs: usize, setting: usize) -> Result<bool, Unread>
     ensures { Says inputs setting text.now result }
 {
-    match condition(text, 0, inputs, setting, 0) {
-        Part::Bad(place) => Meaning::Unread(place + 1),
-        Part::Value(holds, end) => {
-            if end == text.len() {
-                Meaning::Is(holds)
-            } else {
-                Meaning::Unread(end + 1)
-            }
-        }
+    let reader = Reader {
+        text,
+        inputs,
+        setting,
+        opened: 0,
+    };
+    match reader.joined(Join::Or, 0) {
+        Err(stop) => Err(Unread {
+            character: stop.place + 1,
+        }),
+        Ok(part) if part.end == text.len() => Ok(part.holds),
+        Ok(part) => Err(Unread {
+            character: part.end + 1,
+        }),
     }
 }
 
@@ -57,158 +74,138 @@ pub fn read(text: &[u8], inputs: usize, setting: usize) -> Meaning
 pub fn holds(text: &[u8], inputs: usize, setting: usize) -> bool
     ensures { Decides (Holds inputs setting text.now) result }
 {
-    match read(text, inputs, setting) {
-        Meaning::Is(b) => b,
-        Meaning::Unread(_) => false,
-    }
+    read(text, inputs, setting).unwrap_or(false)
 }
 
-// Terms joined by `+`.
-#[cycle(levels)]
-fn condition(text: &[u8], at: usize, inputs: usize, setting: usize, opened: usize) -> Part
-    ensures { Found condition_level inputs setting (parentheses - opened) text.now at result }
+// How many `!` a text begins with.
+fn leading(text: &[u8]) -> usize
+    ensures { result ≡ prefix_len (λ c. c == code "!") text.now }
 {
-    let mut any = false;
-    let mut from = at;
-    loop {
-        match term(text, from, inputs, setting, opened) {
-            Part::Bad(place) => {
-                return Part::Bad(place);
-            }
-            Part::Value(holds, end) => {
-                any = any | holds;
-                if stands(text, end, b'+') {
-                    from = end + 1;
-                } else {
-                    return Part::Value(any, end);
-                }
-            }
+    text.iter().take_while(|c| **c == b'!').count()
+}
+
+impl Join {
+    // The character that joins.
+    fn byte(self) -> u8
+        ensures { result ≡ byte_of (join_of self) }
+    {
+        match self {
+            Join::Or => b'+',
+            Join::And => b'.',
+        }
+    }
+
+    // What two parts say, joined.
+    fn of(self, first: bool, second: bool) -> bool
+        ensures { result ≡ joins (join_of self) first second }
+    {
+        match self {
+            Join::Or => first | second,
+            Join::And => first & second,
         }
     }
 }
 
-// Factors joined by `.`.
-#[cycle(levels)]
-fn term(text: &[u8], at: usize, inputs: usize, setting: usize, opened: usize) -> Part
-    ensures { Found term_level inputs setting (parentheses - opened) text.now at result }
-{
-    let mut all = true;
-    let mut from = at;
-    loop {
-        match factor(text, from, inputs, setting, opened) {
-            Part::Bad(place) => {
-                return Part::Bad(place);
-            }
-            Part::Value(holds, end) => {
-                all = all & holds;
-                if stands(text, end, b'.') {
-                    from = end + 1;
-                } else {
-                    return Part::Value(all, end);
-                }
-            }
+impl Reader<'_> {
+    // Parts joined: a condition, or a term.
+    #[cycle(levels)]
+    fn joined(&self, join: Join, at: usize) -> Result<Part, Stop>
+        ensures { Found (joined_level (join_of join)) self.now at result }
+    {
+        let mut all = self.part(join, at)?;
+        while self.stands(all.end, join.byte()) {
+            let next = self.part(join, all.end + 1)?;
+            all = Part {
+                holds: join.of(all.holds, next.holds),
+                end: next.end,
+            };
+        }
+        Ok(all)
+    }
+
+    // What is joined: terms by `+`, factors by `.`.
+    #[cycle(levels)]
+    fn part(&self, join: Join, at: usize) -> Result<Part, Stop>
+        ensures { Found (level_of join) self.now at result }
+    {
+        match join {
+            Join::Or => self.joined(Join::And, at),
+            Join::And => self.factor(at),
         }
     }
-}
 
-// Any number of `!`, and then a factor that begins with none.
-#[cycle(levels)]
-fn factor(text: &[u8], at: usize, inputs: usize, setting: usize, opened: usize) -> Part
-    ensures { Found factor_level inputs setting (parentheses - opened) text.now at result }
-{
-    let before = bangs(text, at);
-    let from = before.end;
-    let negates = before.negates;
-    match bare(text, from, inputs, setting, opened) {
-        Part::Bad(place) => Part::Bad(place),
-        Part::Value(holds, end) => Part::Value(negates != holds, end),
+    // Any number of `!`, and then a factor that begins with none.
+    #[cycle(levels)]
+    fn factor(&self, at: usize) -> Result<Part, Stop>
+        ensures { Found factor_level self.now at result }
+    {
+        let bangs = self.bangs(at);
+        let bare = self.bare(at + bangs)?;
+        Ok(Part {
+            holds: bare.holds != (bangs % 2 == 1),
+            end: bare.end,
+        })
     }
-}
 
-// The `!` that stand from `at` on.
-fn bangs(text: &[u8], at: usize) -> Negation
-    ensures skipped { Skipped text.now at result.negates result.end }
-    ensures bare { At text.now result.end (code "!") → ⊥ }
-{
-    let mut negates = false;
-    let mut end = at;
-    while stands(text, end, b'!') {
-        negates = !negates;
-        end += 1;
+    // How many `!` stand from `at` on.
+    fn bangs(&self, at: usize) -> usize
+        ensures { result ≡ prefix_len (λ c. c == code "!") (drop at self.now.text.now) }
+    {
+        self.text.get(at..).map_or(0, leading)
     }
-    Negation { negates, end }
-}
 
-// A factor that begins with no `!`.
-#[cycle(levels)]
-fn bare(text: &[u8], at: usize, inputs: usize, setting: usize, opened: usize) -> Part
-    requires { At text.now at (code "!") → ⊥ }
-    ensures { Found factor_level inputs setting (parentheses - opened) text.now at result }
-{
-    if stands(text, at, b'(') {
-        return enclosed(text, at, inputs, setting, opened);
-    }
-    single(text, at, inputs, setting)
-}
-
-// A condition in parentheses.
-#[cycle(levels)]
-fn enclosed(text: &[u8], at: usize, inputs: usize, setting: usize, opened: usize) -> Part
-    requires { At text.now at (code "(") }
-    ensures { Found factor_level inputs setting (parentheses - opened) text.now at result }
-{
-    if PARENTHESES <= opened {
-        return Part::Bad(at);
-    }
-    match condition(text, at + 1, inputs, setting, opened + 1) {
-        Part::Bad(place) => Part::Bad(place),
-        Part::Value(holds, end) => {
-            if stands(text, end, b')') {
-                Part::Value(holds, end + 1)
-            } else {
-                Part::Bad(end)
-            }
+    // A factor that begins with no `!`.
+    #[cycle(levels)]
+    #[tactic(auto, using(crate::proofs::Parts::single_fails, crate::proofs::Parts::end_fails))]
+    fn bare(&self, at: usize) -> Result<Part, Stop>
+        requires { At self.now.text.now at (code "!") → ⊥ }
+        ensures { Found factor_level self.now at result }
+    {
+        match self.text.get(at).copied() {
+            Some(b'(') => self.enclosed(at),
+            Some(b'0') => Ok(Part {
+                holds: false,
+                end: at + 1,
+            }),
+            Some(b'1') => Ok(Part {
+                holds: true,
+                end: at + 1,
+            }),
+            Some(letter @ b'a'..=b'h') if usize::from(letter - b'a') < self.inputs => Ok(Part {
+                holds: (self.setting >> (letter - b'a')) % 2 == 1,
+                end: at + 1,
+            }),
+            _ => Err(Stop { place: at }),
         }
     }
-}
 
-// `0`, `1`, or an input letter; input a weighs 1, b 2, and so on.
-fn single(text: &[u8], at: usize, inputs: usize, setting: usize) -> Part
-    requires { (At text.now at (code "!") → ⊥) × (At text.now at (code "(") → ⊥) }
-    ensures { (d : ℕ) → Found factor_level inputs setting d text.now at result }
-{
-    if text.len() <= at {
-        return Part::Bad(at);
+    // A condition in parentheses.
+    #[cycle(levels)]
+    fn enclosed(&self, at: usize) -> Result<Part, Stop>
+        requires { At self.now.text.now at (code "(") }
+        ensures { Found factor_level self.now at result }
+    {
+        if PARENTHESES <= self.opened {
+            return Err(Stop { place: at });
+        }
+        let inner = Reader {
+            opened: self.opened + 1,
+            ..*self
+        };
+        let part = inner.joined(Join::Or, at + 1)?;
+        if !self.stands(part.end, b')') {
+            return Err(Stop { place: part.end });
+        }
+        Ok(Part {
+            holds: part.holds,
+            end: part.end + 1,
+        })
     }
-    let c = text[at];
-    if c == b'0' {
-        return Part::Value(false, at + 1);
-    }
-    if c == b'1' {
-        return Part::Value(true, at + 1);
-    }
-    if c < b'a' {
-        return Part::Bad(at);
-    }
-    let input = wide(c - b'a');
-    if inputs <= input {
-        return Part::Bad(at);
-    }
-    if INPUTS <= input {
-        return Part::Bad(at);
-    }
-    Part::Value((setting >> input) % 2 == 1, at + 1)
-}
 
-// Whether the character c stands at `at`.
-fn stands(text: &[u8], at: usize, c: u8) -> bool
-    ensures { Decides (At text.now at c) result }
-{
-    if text.len() <= at {
-        return false;
+    // Whether the character c stands at `at`.
+    fn stands(&self, at: usize, c: u8) -> bool
+        ensures { Decides (At self.now.text.now at c) result }
+    {
+        self.text.get(at) == Some(&c)
     }
-    if text[at] != c {
-        return false;
-    }
-    true
 }

@@ -18,9 +18,8 @@ use Rattle.machine.proofs.Soundness.{sound_states, sound_calm}
 use Rattle.machine.proofs.Faults.{run_faultless}
 use Rattle.machine.proofs.Small.{run_to_small}
 use Rattle.machine.proofs.Plans.{plan_runs}
-use Rattle.tables.specs.Tables.{Tabled}
+use Rattle.tables.specs.Tables.{Tabled, Checked}
 use Rattle.machine.proofs.Sizes.{couples_few}
-use Rattle.tables.specs.inner.Fits.{Checked}
 use Rattle.marking.specs.Marking.{mark_checks, MarkedAs}
 use Rattle.plan.specs.Planning.{PlanBytes, ShortOf, WholeDone, PlannedAs}
 use Rattle.plan.proofs.Held.{held_checked}

@@ -1,25 +1,14 @@
 // The settings at which a condition holds, as a set.
 #![tactic(auto)]
 
-ghost use Rattle.std.specs.Prelude.{◌+◌, ◌^◌, ◌≤◌, ◌<◌};
-ghost use Rattle.sets.specs.Sets.{words, most_members, SetOf};
+ghost use Rattle.std.specs.Prelude.{◌^◌, ◌≤◌, ◌<◌};
+ghost use Rattle.sets.specs.Sets.{words, SetOf};
 ghost use Rattle.machine.specs.Limits.{most_inputs};
 ghost use Rattle.condition.specs.Condition.{Holds};
 
 use condition::holds;
 use machine::settings;
 use sets::WORDS;
-
-// The set of the settings below this one, with it where the condition holds.
-fn more(text: &[u8], inputs: usize, setting: usize, set: [u64; WORDS]) -> [u64; WORDS]
-    requires { (setting < most_members) × SetOf words setting (λ v. Holds inputs v text.now) set }
-    ensures { SetOf words (setting + 1) (λ v. Holds inputs v text.now) result }
-{
-    if holds(text, inputs, setting) {
-        return sets::with(set, setting);
-    }
-    set
-}
 
 // The settings of so many inputs at which the condition holds; none where it does not read, or with more inputs than a machine may have.
 pub fn set_of(text: &[u8], inputs: usize) -> [u64; WORDS]
@@ -28,8 +17,10 @@ pub fn set_of(text: &[u8], inputs: usize) -> [u64; WORDS]
 {
     let mut set = [0u64; WORDS];
     for v in 0..settings(inputs) {
-        let next = more(text, inputs, v, set);
-        set = next;
+        if holds(text, inputs, v) {
+            let next = sets::with(set, v);
+            set = next;
+        }
     }
     set
 }

@@ -10,7 +10,7 @@ use sets::WORDS;
 
 // What a table job is told beside the table: the sizes, the set of the settings that are ruled out, and that of the allowed starts.
 #[repr(C)]
-#[derive(Clone, Copy)]
+#[derive(Clone, Copy, Debug, PartialEq, Eq)]
 pub struct Frame {
     pub inputs: usize,
     pub states: usize,
@@ -39,43 +39,28 @@ pub fn settings(inputs: usize) -> usize
     ensures few { (inputs ≤ most_inputs → result ≡ 2 ^ inputs) × (result ≤ most_settings) }
     ensures many { most_inputs < inputs → result ≡ 0 }
 {
-    if INPUTS < inputs {
-        return 0;
-    }
-    1 << inputs
+    if inputs <= INPUTS { 1 << inputs } else { 0 }
 }
 
-// Whether the sizes are in their ranges: otherwise refusal 2.
-pub fn sized(frame: Frame) -> bool
-    ensures { Decides (Sized frame.inputs frame.states frame.initial) result }
-{
-    if frame.inputs < 1 {
-        return false;
+impl Frame {
+    // Whether the sizes are in their ranges: otherwise refusal 2.
+    pub fn sized(self) -> bool
+        ensures { Decides (Sized self.inputs self.states self.initial) result }
+    {
+        (1..=INPUTS).contains(&self.inputs) && self.states <= STATES && self.initial < self.states
     }
-    if INPUTS < frame.inputs {
-        return false;
-    }
-    if STATES < frame.states {
-        return false;
-    }
-    frame.initial < frame.states
-}
 
-// Whether a run may use a setting: the frame does not rule it out.
-pub fn usable(frame: Frame, setting: usize) -> bool
-    ensures { result ≡ isUsable frame setting }
-{
-    let never = frame.never;
-    !sets::has(never, setting)
-}
-
-// Whether a run may start at a setting: it is an allowed start, and the frame does not rule it out.
-pub fn startable(frame: Frame, setting: usize) -> bool
-    ensures { result ≡ isStartable frame setting }
-{
-    let starts = frame.starts;
-    if sets::has(starts, setting) {
-        return usable(frame, setting);
+    // Whether a run may use a setting: the frame does not rule it out.
+    pub fn usable(self, setting: usize) -> bool
+        ensures { result ≡ isUsable self setting }
+    {
+        !sets::has(self.never, setting)
     }
-    false
+
+    // Whether a run may start at a setting: it is an allowed start, and the frame does not rule it out.
+    pub fn startable(self, setting: usize) -> bool
+        ensures { result ≡ isStartable self setting }
+    {
+        sets::has(self.starts, setting) && self.usable(setting)
+    }
 }

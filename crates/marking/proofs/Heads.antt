@@ -2,39 +2,24 @@
 -- another or at the end.
 use mathlib.Core.Path.{◌≡◌, sym, ap, subst, ◌∙◌}
 use mathlib.Core.Logic.{◌⊎◌, inl, inr, ⊎_elim}
-use mathlib.Core.Bool.{Bool, true, false}
 use mathlib.Core.List.{List}
-use Prim.Native.Nat.{ℕ, suc, ◌+◌, ◌≤◌, ◌<◌}
-use native.Mathlib.Nat.{le_refl}
+use Prim.Native.Nat.{ℕ, ◌+◌, ◌≤◌, ◌<◌}
 use native.Mathlib.Omega.{arith}
 use lib.ListN.{get_or, length}
-use lib.Dec.{eqb}
-use Rattle.verdict.specs.Checks.{Decides}
-use Rattle.verdict.proofs.Tests.{decides_eqb}
 use Rattle.machine.specs.Limits.{most_couples}
 use Rattle.machine.specs.Runs.{Machine}
 use Rattle.machine.proofs.Order.{equal_or}
 use Rattle.machine.proofs.Small.{pigeons}
+use Rattle.marking.specs.declared.changes.Changes.{Changes}
 use Rattle.marking.specs.inner.Queue.{Between, Room, Pushed}
-use Rattle.marking.proofs.Spreading.{spread_none, spread_one, spread_then, spread_as, spread_kept}
-use Rattle.several.specs.Weights.{extra, unweighed}
-use Rattle.marking.specs.inner.Engine.{weight_of, ByRest, Expands, Spreading, Going, SpreadAs}
-
--- the test of the next weight
-pub due_many : {b : Bool} (w r : ℕ) → b ≡ true → Decides (w + weight_of b ≡ r) (eqb (w + extra + 1) r)
-due_many w r e = rw e (decides_eqb (w + extra + 1) r (λ h. omega arith) (λ h. omega arith))
-
-pub due_one : {b : Bool} (w r : ℕ) → b ≡ false → Decides (w + weight_of b ≡ r) (eqb (w + 1) r)
-due_one w r e = rw e (decides_eqb (w + 1) r (λ h. h) (λ h. h))
+use Rattle.marking.proofs.Spreading.{spread_one, spread_then, spread_as, spread_kept}
+use Rattle.marking.specs.inner.Engine.{weight_of, ByRest, Spreading, Going, SpreadAs}
 
 pub room_full : {R P Q : List ℕ} {tail : ℕ} → Room R P Q tail → tail ≤ length R
 room_full {R} {P} {Q} {tail} x = pigeons (length R) tail (λ i. get_or Q i 0) x.low x.once
 
-module _ (m : Machine) {R P Q : List ℕ} {z r a e tail : ℕ} (x : Spreading m.table R P Q z m.inputs r a e tail) (many : Bool) where
-  pub going_none : Going m z many r a e R P Q tail R P Q a tail
-  going_none = record { spread = spread_none x.room (λ q c ((j, u, v, w), b). omega arith); from = le_refl a; to = x.from; over = λ i u v. absurd (omega arith) }
-
-  module _ {R' P' Q' : List ℕ} {h t : ℕ} (g : Going m z many r a e R P Q tail R' P' Q' h t) (l : h < e) where
+module _ (m : Machine) {R P Q : List ℕ} {r a e tail : ℕ} (x : Spreading m R P Q r a e tail) (many : Changes) where
+  module _ {R' P' Q' : List ℕ} {h t : ℕ} (g : Going m many r a e R P Q tail R' P' Q' h t) (l : h < e) where
     -- the couple at the head
     pub head_in : (h < length Q') × (h < most_couples) × (get_or Q' h 0 < length R') × (h < t)
     head_in =
@@ -46,14 +31,8 @@ module _ (m : Machine) {R P Q : List ℕ} {z r a e tail : ℕ} (x : Spreading m.
     head_weight : get_or R' (get_or Q' h 0) 0 ≡ get_or R (get_or Q h 0) 0
     head_weight = spread_kept x.room g.spread h (omega (arith, x.to))
 
-    pub head_light : get_or R' (get_or Q' h 0) 0 + suc extra ≤ unweighed
-    head_light = rw head_weight (x.light h l)
-
-    pub head_expands : Expands m.table R' P' Q' z m.inputs t (get_or Q' h 0) r
-    head_expands = record { rows = rw g.spread.same_length x.rows; room = g.spread.room; below = head_in.2; small = x.small }
-
     pub going_more : {R'' P'' Q'' : List ℕ} {t' : ℕ} → get_or R' (get_or Q' h 0) 0 + weight_of many ≡ r
-        → Pushed (ByRest m z many (get_or Q' h 0)) r (get_or Q' h 0) R' P' Q' t R'' P'' Q'' t' → Going m z many r a e R P Q tail R'' P'' Q'' (h + 1) t'
+        → Pushed (ByRest many m (get_or Q' h 0)) r (get_or Q' h 0) R' P' Q' t R'' P'' Q'' t' → Going m many r a e R P Q tail R'' P'' Q'' (h + 1) t'
     going_more d p = record {
       spread = spread_as to of (spread_then x.small g.spread (spread_one p));
       from = omega (arith, g.from);
@@ -67,18 +46,15 @@ module _ (m : Machine) {R P Q : List ℕ} {z r a e tail : ℕ} (x : Spreading m.
         kept : get_or Q' h 0 ≡ get_or Q h 0
         kept = g.spread.kept h (omega (arith, x.to))
 
-        to : (q c : ℕ) → (Between Q a h q × ByRest m z many q c) ⊎ ((q ≡ get_or Q' h 0) × ByRest m z many (get_or Q' h 0) c) → Between Q a (h + 1) q × ByRest m z many q c
+        to : (q c : ℕ) → (Between Q a h q × ByRest many m q c) ⊎ ((q ≡ get_or Q' h 0) × ByRest many m (get_or Q' h 0) c) → Between Q a (h + 1) q × ByRest many m q c
         to q c (inl ((j, u, v, w), b)) = ((j, u, omega arith, w), b)
-        to q c (inr (f, b)) = ((h, g.from, omega arith, sym kept ∙ sym f), subst (λ (p : ℕ). ByRest m z many p c) (sym f) b)
+        to q c (inr (f, b)) = ((h, g.from, omega arith, sym kept ∙ sym f), subst (λ (p : ℕ). ByRest many m p c) (sym f) b)
 
-        of : (q c : ℕ) → Between Q a (h + 1) q × ByRest m z many q c → (Between Q a h q × ByRest m z many q c) ⊎ ((q ≡ get_or Q' h 0) × ByRest m z many (get_or Q' h 0) c)
+        of : (q c : ℕ) → Between Q a (h + 1) q × ByRest many m q c → (Between Q a h q × ByRest many m q c) ⊎ ((q ≡ get_or Q' h 0) × ByRest many m (get_or Q' h 0) c)
         of q c ((j, u, v, w), b) = ⊎_elim
-            (λ (f : j ≡ h). let s : q ≡ get_or Q' h 0 = sym w ∙ ap (λ (i : ℕ). get_or Q i 0) f ∙ sym kept in inr (s, subst (λ (p : ℕ). ByRest m z many p c) s b))
+            (λ (f : j ≡ h). let s : q ≡ get_or Q' h 0 = sym w ∙ ap (λ (i : ℕ). get_or Q i 0) f ∙ sym kept in inr (s, subst (λ (p : ℕ). ByRest many m p c) s b))
             (λ (f : j ≡ h → ⊥). inl ((j, u, omega arith, w), b))
             (equal_or j h)
 
-    pub going_stop : (get_or R' (get_or Q' h 0) 0 + weight_of many ≡ r → ⊥) → SpreadAs m z many r a e R P Q tail R' P' Q' h t
-    going_stop d = record { going = g; stop = λ _ f. d (rw head_weight f) }
-
-pub going_end : {m : Machine} {R P Q R' P' Q' : List ℕ} {z r a e tail h t : ℕ} {many : Bool} → Going m z many r a e R P Q tail R' P' Q' h t → e ≤ h → SpreadAs m z many r a e R P Q tail R' P' Q' h t
+pub going_end : {m : Machine} {R P Q R' P' Q' : List ℕ} {r a e tail h t : ℕ} {many : Changes} → Going m many r a e R P Q tail R' P' Q' h t → e ≤ h → SpreadAs m many r a e R P Q tail R' P' Q' h t
 going_end g l = record { going = g; stop = λ k f. omega arith }

@@ -1,4 +1,5 @@
 pub mod Parts
+pub mod Lent
 pub mod Pushing
 pub mod Spreading
 pub mod Levels
@@ -7,7 +8,6 @@ pub mod Expanding
 pub mod Heads
 pub mod Progress
 pub mod Filling
-pub mod Halves
 pub mod Checks
 pub mod Outcomes
 pub mod Once

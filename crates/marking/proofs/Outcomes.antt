@@ -4,47 +4,31 @@ use mathlib.Core.Path.{◌≡◌, refl, sym, subst, ◌∙◌}
 use mathlib.Core.Logic.{inl, inr, ⊎_elim}
 use mathlib.Core.Bool.{false}
 use mathlib.Core.List.{List, ◌++◌}
-use Prim.Native.Nat.{ℕ, ◌*◌, ◌-◌, ◌≤◌, ◌<◌}
+use Prim.Native.Nat.{ℕ, ◌≤◌, ◌<◌}
 use native.Mathlib.Omega.{arith}
 use lib.ListN.{length, get_or, take, drop, get_or-eq_default}
 use borrow.Author.Tests.{lt-ltb, le-ltb}
-use Rattle.verdict.specs.Checks.{Passed, Judged}
 use Rattle.verdict.specs.Buffers.{Filled, Left}
 use Rattle.verdict.specs.declared.Answer.{Answer}
+use Rattle.verdict.specs.declared.Refusal.{Refusal}
+use Rattle.verdict.specs.Refusals.{number_of, refused_by}
+use Rattle.verdict.proofs.Refusals.{refusal_number}
 use Rattle.verdict.proofs.Fills.{filled_free, left_same, left_blank, left_filled}
 use Rattle.verdict.proofs.Order.{judged_on, judged_stop, judged_number, judged_passes, roomy}
-use Rattle.machine.specs.Limits.{most_inputs, most_couples, unmarked}
-use Rattle.machine.specs.Runs.{Machine, machine_of, size, couples, RankOrUnmarked}
+use Rattle.machine.specs.Limits.{most_couples, unmarked}
+use Rattle.machine.specs.Runs.{Machine, machine_of, couples, RankOrUnmarked}
 use Rattle.machine.specs.declared.Frame.{Frame}
 use Rattle.machine.proofs.Order.{equal_or}
-use Rattle.machine.proofs.Sizes.{couples_are, couples_few}
+use Rattle.machine.proofs.Sizes.{couples_few}
 use Rattle.several.specs.Several.{singly}
-use Rattle.several.specs.Weights.{extra, unweighed, WeightOrNone}
+use Rattle.several.specs.Weights.{extra, WeightOrNone}
 use Rattle.several.proofs.Single.{singly_by}
 use Rattle.several.proofs.Listed.{weight_rank}
-use Rattle.tables.specs.Tables.{Tabled, move_checks, start_checks}
-use Rattle.tables.specs.inner.Fits.{Checked}
-use Rattle.tables.proofs.Gate.{size_passed}
+use Rattle.tables.specs.Tables.{move_checks, start_checks, Checked}
 use Rattle.marking.specs.Marking.{MarkedAs, ParentedAs}
-use Rattle.marking.specs.inner.Parts.{SizedAs, Exact, Blank, Weighed, WeighedAs, rank_of, ExactAs}
+use Rattle.marking.specs.inner.Parts.{SizedAs, Exact, WeighedAs, rank_of, ExactAs}
 use Rattle.marking.proofs.Checks.{without_parents}
-use Rattle.marking.proofs.Parts.{part_length, left_part}
-
--- blank buffers
-pub blanked : {m : Machine} {W P W₁ P₁ : List ℕ} → Exact m W P → Filled (length W) (λ c x. x ≡ unweighed) W W₁ → Filled (length P) (λ c x. x ≡ 0) P P₁ → Blank m W₁ P₁
-blanked exact weights parents = record {
-  exact = record { weights_are = weights.same_length ∙ exact.weights_are; parents_are = parents.same_length ∙ exact.parents_are };
-  weights_blank = λ c h. weights.needed c (rw exact.weights_are h);
-  parents_blank = λ c h. parents.needed c (rw exact.parents_are h);
-}
-
--- the checks of the table refuse, or pass
-module _ {m : Machine} {a : Answer} {W P : List ℕ} (v : Judged (move_checks m ++ start_checks m) Passed a) where
-  pub weigh_refused : (a.number ≡ 0 → ⊥) → Blank m W P → WeighedAs m a W P
-  weigh_refused n blank = record { verdict = v; done = λ e. absurd (n e); refused = λ _. blank }
-
-  pub weigh_passed : a.number ≡ 0 → Checked m → Weighed m W P → WeighedAs m a W P
-  weigh_passed e checked weighed = record { verdict = v; done = λ _. (weighed, checked); refused = λ n. absurd (n e) }
+use Rattle.marking.proofs.Parts.{left_part}
 
 -- a buffer whose elements are all needed
 left_whole : {number t blank : ℕ} {Value : ℕ → ℕ → Type 0} {a b : List ℕ} → ((number ≡ 0 → ⊥) → (4 ≤ number) × (number ≤ 13)) → length a ≡ t → length b ≡ t
@@ -86,45 +70,23 @@ marked {m} {R} {W} {P} {Q} {R₁} {W₁} {P₁} {a} exact all queue y ranks = re
     told c l = ranks.needed c (rw (queue ∙ all) l)
 
 -- refusals 2 and 3 change nothing
-pub keeping : {m : Machine} {R W P : List ℕ} {a : Answer} → SizedAs m (length R) (length W) (length P) a → (a.number ≡ 0 → ⊥) → ParentedAs m R W P a R W P
-keeping {m} x e =
-    let (low, high) = judged_number 1 3 x.verdict refl e in
-    record { verdict = judged_stop (move_checks m ++ start_checks m) x.verdict e; ranks = left_same low high; weights = left_same low high; parents = left_same low high }
+pub keeping : {m : Machine} {R W P : List ℕ} (r : Refusal) → SizedAs m (length R) (length W) (length P) (refused_by r) → ParentedAs m R W P (refused_by r) R W P
+keeping {m} r x =
+    let no : number_of r ≡ 0 → ⊥ = λ e. omega (arith, refusal_number r) in
+    let (low, high) = judged_number 1 3 x.verdict refl no in
+    record { verdict = judged_stop (move_checks m ++ start_checks m) x.verdict no; ranks = left_same low high; weights = left_same low high; parents = left_same low high }
 
 -- with room for all, on the first elements
-module _ {m : Machine} {z : ℕ} (R W P : List ℕ) {a : Answer} (x : SizedAs m (length R) (length W) (length P) a) (e : a.number ≡ 0) (settings : m.inputs ≤ most_inputs → z ≡ size m) where
-  pub tabled : Tabled m
-  tabled = let p = judged_passes 3 x.verdict refl e in size_passed m (p.0, (p.1.0, tt))
-
-  total : m.states * z ≡ couples m
-  total = couples_are tabled.sized settings
-
-  pub needed_few : m.states * z ≤ most_couples
-  needed_few = rw total (couples_few tabled.sized)
-
-  pub ranks_room : m.states * z ≤ length R
-  ranks_room = rw total (roomy (judged_passes 3 x.verdict refl e).1.1.0)
-
-  pub weights_room : m.states * z ≤ length W
-  weights_room = rw total (roomy (judged_passes 3 x.verdict refl e).1.1.1.0)
-
-  pub parents_room : m.states * z ≤ length P
-  parents_room = rw total (roomy (judged_passes 3 x.verdict refl e).1.1.1.1.0)
-
-  pub exactly : Exact m (take (m.states * z - 0) W) (take (m.states * z - 0) P)
-  exactly = record { weights_are = part_length (m.states * z) W weights_room ∙ total; parents_are = part_length (m.states * z) P parents_room ∙ total }
-
-  pub ranks_exactly : length (take (m.states * z - 0) R) ≡ couples m
-  ranks_exactly = part_length (m.states * z) R ranks_room ∙ total
-
-  pub parented : {b : Answer} {R₁ W₁ P₁ : List ℕ} → ExactAs m (take (m.states * z - 0) R) (take (m.states * z - 0) W) (take (m.states * z - 0) P) b R₁ W₁ P₁
-      → ParentedAs m R W P b (R₁ ++ drop (m.states * z - 0) R) (W₁ ++ drop (m.states * z - 0) W) (P₁ ++ drop (m.states * z - 0) P)
-  parented y = record {
-    verdict = judged_on 3 x.verdict refl e y.verdict;
-    ranks = left_part (m.states * z) R ranks_room total y.ranks;
-    weights = left_part (m.states * z) W weights_room total y.weights;
-    parents = left_part (m.states * z) P parents_room total y.parents;
-  }
+pub parented : {m : Machine} {k : ℕ} (R W P : List ℕ) {a b : Answer} {R₁ W₁ P₁ : List ℕ} → SizedAs m (length R) (length W) (length P) a → a.number ≡ 0 → k ≡ couples m
+    → ExactAs m (take k R) (take k W) (take k P) b R₁ W₁ P₁ → ParentedAs m R W P b (R₁ ++ drop k R) (W₁ ++ drop k W) (P₁ ++ drop k P)
+parented {k = k} R W P x e all y =
+    let passed = judged_passes 3 x.verdict refl e in
+    record {
+      verdict = judged_on 3 x.verdict refl e y.verdict;
+      ranks = left_part k R (rw all (roomy passed.1.1.0)) all y.ranks;
+      weights = left_part k W (rw all (roomy passed.1.1.1.0)) all y.weights;
+      parents = left_part k P (rw all (roomy passed.1.1.1.1.0)) all y.parents;
+    }
 
 -- of single changes, in arrays for as many couples as a machine may have
 pub marked_single : (f : Frame) (T : List ℕ) {R W P R₁ W₁ P₁ : List ℕ} {a : Answer} → length W ≡ most_couples → length P ≡ most_couples → ParentedAs (machine_of f T) R W P a R₁ W₁ P₁ → MarkedAs (machine_of f T) R a R₁

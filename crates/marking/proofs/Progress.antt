@@ -17,12 +17,14 @@ use Rattle.machine.specs.inner.Trails.{Steps}
 use Rattle.machine.proofs.Order.{below_or, equal_or}
 use Rattle.machine.proofs.Tests.{whole}
 use Rattle.machine.proofs.Trails.{stepped}
-use Rattle.machine.proofs.Flips.{Single}
+use Rattle.machine.proofs.Flips.{Single as AllSingle}
 use Rattle.several.specs.Several.{multiple}
 use Rattle.several.specs.Weights.{extra, unweighed}
 use Rattle.several.specs.inner.Lightest.{step, Complete}
 use Rattle.several.proofs.Runs.{lightest_small}
 use Rattle.several.proofs.Listed.{weight_listed, parent_listed}
+use Rattle.marking.specs.declared.changes.Changes.{Changes}
+use Rattle.marking.specs.declared.changes.Changes.TheVariants.{Single, Multiple}
 use Rattle.marking.specs.inner.Queue.{Between, Leads, Spread, Expanded, Head}
 use Rattle.marking.specs.inner.Queue.Expanded.{had, got, left}
 use Rattle.marking.specs.inner.Engine.{Kind, weight_of, ByChange, ByRest, SpreadAs, Light, Next, Before, RoundLeft, Progress}
@@ -39,24 +41,24 @@ pub record Alters (m : Machine) : Type 0 where
 
 module _ (m : Machine) where
   -- a change weighs as its kind does
-  kind_weight : (many : Bool) (v w : ℕ) → Kind many m.inputs v w → suc (multiple m v w * extra) ≡ weight_of many
-  kind_weight true v w k = rw (ne_eqb (differing m.inputs v w) 1 (λ e. omega arith)) refl
-  kind_weight false v w k = rw (eq-eqb (differing m.inputs v w) 1 k) refl
+  kind_weight : (many : Changes) (v w : ℕ) → Kind many m.inputs v w → suc (multiple m v w * extra) ≡ weight_of many
+  kind_weight Multiple v w k = rw (ne_eqb (differing m.inputs v w) 1 (λ e. omega arith)) refl
+  kind_weight Single v w k = rw (eq-eqb (differing m.inputs v w) 1 k) refl
 
-  weight_kind : (many : Bool) (v w : ℕ) → 0 < differing m.inputs v w → suc (multiple m v w * extra) ≡ weight_of many → Kind many m.inputs v w
+  weight_kind : (many : Changes) (v w : ℕ) → 0 < differing m.inputs v w → suc (multiple m v w * extra) ≡ weight_of many → Kind many m.inputs v w
   weight_kind many v w l = ⊎_elim (single many) (several many) (equal_or (differing m.inputs v w) 1)
     where
-      single : (many : Bool) → differing m.inputs v w ≡ 1 → suc (multiple m v w * extra) ≡ weight_of many → Kind many m.inputs v w
-      single true e f = absurd (omega (arith, rw (eq-eqb (differing m.inputs v w) 1 e) at f))
-      single false e f = e
+      single : (many : Changes) → differing m.inputs v w ≡ 1 → suc (multiple m v w * extra) ≡ weight_of many → Kind many m.inputs v w
+      single Multiple e f = absurd (omega (arith, rw (eq-eqb (differing m.inputs v w) 1 e) at f))
+      single Single e f = e
 
-      several : (many : Bool) → (differing m.inputs v w ≡ 1 → ⊥) → suc (multiple m v w * extra) ≡ weight_of many → Kind many m.inputs v w
-      several true e f = omega arith
-      several false e f = absurd (omega (arith, rw (ne_eqb (differing m.inputs v w) 1 e) at f))
+      several : (many : Changes) → (differing m.inputs v w ≡ 1 → ⊥) → suc (multiple m v w * extra) ≡ weight_of many → Kind many m.inputs v w
+      several Multiple e f = omega arith
+      several Single e f = absurd (omega (arith, rw (ne_eqb (differing m.inputs v w) 1 e) at f))
 
   -- what the code expands are the changes of each weight
-  by_steps : (many : Bool) (p c : ℕ) → ByRest m (size m) many p c → Leads m (weight_of many) p c
-  by_steps many p c (e, (w, l, (k, (a, x)))) =
+  by_steps : (many : Changes) (p c : ℕ) → ByRest many m p c → Leads m (weight_of many) p c
+  by_steps many p c (e, w, l, k, (a, x)) =
       let y : Steps m p c = record {
         state = p / size m;
         from = p % size m;
@@ -69,18 +71,21 @@ module _ (m : Machine) where
       } in
       (y, rw (stepped y) (kind_weight many (p % size m) w k))
 
-  steps_by_lem : Alters m → (many : Bool) (p c : ℕ) → Leads m (weight_of many) p c → ByRest m (size m) many p c
+  steps_by_lem : Alters m → (many : Changes) (p c : ℕ) → Leads m (weight_of many) p c → ByRest many m p c
   steps_by_lem alters many p c (x, f) =
       let a : x.state ≡ p / size m = sym (ap (λ (y : ℕ). y / size m) x.here ∙ high x.state m.inputs x.below) in
       let b : x.from ≡ p % size m = sym (ap (λ (y : ℕ). y % size m) x.here ∙ low x.state m.inputs x.below) in
       let free : m.may_change (p % size m) x.to ≡ true = subst (λ (v : ℕ). m.may_change v x.to ≡ true) b x.change.allowed in
       let k : Kind many m.inputs (p % size m) x.to = weight_kind many (p % size m) x.to (alters.some _ _ free) (rw (stepped x) at f) in (
         ap (λ (y : ℕ). get_or m.table y 0) x.here ∙ x.rests ∙ a,
-        (x.to, x.change.below, (k, (free, subst (λ (y : ℕ). ByChange m.table (size m) y x.to c) a x.visits))),
+        x.to,
+        x.change.below,
+        k,
+        (free, subst (λ (y : ℕ). ByChange m y x.to c) a x.visits),
       )
 
   -- where every change is single, none weighs more
-  single_step : Single m → (p c : ℕ) → Steps m p c → step m extra p c ≡ suc extra → ⊥
+  single_step : AllSingle m → (p c : ℕ) → Steps m p c → step m extra p c ≡ suc extra → ⊥
   single_step single p c x f =
       let b : p % size m ≡ x.from = ap (λ (y : ℕ). y % size m) x.here ∙ low x.state m.inputs x.below in
       let g = rw (b, stepped x) at f in
@@ -113,17 +118,17 @@ module _ {m : Machine} (ok : Sound m) (fits : couples m ≤ most_couples) {R P Q
   second_left false l = omega (arith, behind)
 
   -- no round is left
-  complete : (several : Bool) → (several ≡ false → Single m) → (RoundLeft several a b e (length R) → ⊥) → Complete m extra unweighed R P
+  complete : (several : Bool) → (several ≡ false → AllSingle m) → (RoundLeft several a b e (length R) → ⊥) → Complete m extra unweighed R P
   complete several single none = ⊎_elim
       (λ l. at_end several single (λ h. none (record { some = l; head = h })))
       (λ l. level_last ok x.up_to R P x.level x.small (λ p c _ h _ _ u. omega (arith, room_left x.room c (rw x.total h) u)))
       (below_or e (length R))
     where
-      at_end : (several : Bool) → (several ≡ false → Single m) → (Before several a b e → ⊥) → Complete m extra unweighed R P
+      at_end : (several : Bool) → (several ≡ false → AllSingle m) → (Before several a b e → ⊥) → Complete m extra unweighed R P
       at_end true single l = heads_last ok x.up_to R P x.level x.small x.heads (omega (arith, behind)) (λ _ _ _ _. omega arith)
       at_end false single l = heads_last ok x.up_to R P x.level x.small x.heads (omega arith) (λ p c s f. absurd (single_step m (single refl) p c s f))
 
-  pub progress_last : (several : Bool) → (several ≡ false → Single m) → (RoundLeft several a b e (length R) → ⊥) → Weighed m R P
+  pub progress_last : (several : Bool) → (several ≡ false → AllSingle m) → (RoundLeft several a b e (length R) → ⊥) → Weighed m R P
   progress_last several single none =
       let all = complete several single none in
       record {
@@ -154,8 +159,8 @@ module _ {m : Machine} (ok : Sound m) (fits : couples m ≤ most_couples) {R P Q
         omega (arith, higher)
 
     module _ (alters : Alters m) {R₁ P₁ Q₁ R₂ P₂ Q₂ : List ℕ} {h g t₁ t₂ : ℕ}
-        (u : SpreadAs m (size m) false r a e R P Q e R₁ P₁ Q₁ h t₁) (v : SpreadAs m (size m) true r b e R₁ P₁ Q₁ t₁ R₂ P₂ Q₂ g t₂) where
-      abbrev first : Spread (λ q d. Between Q a h q × ByRest m (size m) false q d) r R P Q e R₁ P₁ Q₁ t₁
+        (u : SpreadAs m Single r a e R P Q e R₁ P₁ Q₁ h t₁) (v : SpreadAs m Multiple r b e R₁ P₁ Q₁ t₁ R₂ P₂ Q₂ g t₂) where
+      abbrev first : Spread (λ q d. Between Q a h q × ByRest Single m q d) r R P Q e R₁ P₁ Q₁ t₁
       first = u.going.spread
 
       -- the queue and its weights under the second head
@@ -177,13 +182,13 @@ module _ {m : Machine} (ok : Sound m) (fits : couples m ≤ most_couples) {R P Q
       whole_round : Spread (Under ok x.up_to r R P Q a h b g e) r R P Q e R₂ P₂ Q₂ t₂
       whole_round = spread_as to of (spread_then next_small first v.going.spread)
         where
-          to : (q c : ℕ) → (Between Q a h q × ByRest m (size m) false q c) ⊎ (Between Q₁ b g q × ByRest m (size m) true q c) → Under ok x.up_to r R P Q a h b g e q c
-          to q c (inl (j, k)) = inl (j, by_steps m false q c k)
-          to q c (inr ((j, l, o, w), k)) = inr ((j, l, o, sym (first.kept j (lt_of_lt_of_le o v.going.to)) ∙ w), by_steps m true q c k)
+          to : (q c : ℕ) → (Between Q a h q × ByRest Single m q c) ⊎ (Between Q₁ b g q × ByRest Multiple m q c) → Under ok x.up_to r R P Q a h b g e q c
+          to q c (inl (j, k)) = inl (j, by_steps m Single q c k)
+          to q c (inr ((j, l, o, w), k)) = inr ((j, l, o, sym (first.kept j (lt_of_lt_of_le o v.going.to)) ∙ w), by_steps m Multiple q c k)
 
-          of : (q c : ℕ) → Under ok x.up_to r R P Q a h b g e q c → (Between Q a h q × ByRest m (size m) false q c) ⊎ (Between Q₁ b g q × ByRest m (size m) true q c)
-          of q c (inl (j, k)) = inl (j, steps_by_lem m alters false q c k)
-          of q c (inr ((j, l, o, w), k)) = inr ((j, l, o, first.kept j (lt_of_lt_of_le o v.going.to) ∙ w), steps_by_lem m alters true q c k)
+          of : (q c : ℕ) → Under ok x.up_to r R P Q a h b g e q c → (Between Q a h q × ByRest Single m q c) ⊎ (Between Q₁ b g q × ByRest Multiple m q c)
+          of q c (inl (j, k)) = inl (j, steps_by_lem m alters Single q c k)
+          of q c (inr ((j, l, o, w), k)) = inr ((j, l, o, first.kept j (lt_of_lt_of_le o v.going.to) ∙ w), steps_by_lem m alters Multiple q c k)
 
       -- the next round begins
       pub progress_next : Progress m R₂ P₂ Q₂ h g t₂

@@ -3,8 +3,8 @@
 use mathlib.Core.Path.{◌≡◌, refl, sym, ap, ◌∙◌}
 use mathlib.Core.Logic.{◌⊎◌, ⊎_elim, inl, inr}
 use mathlib.Core.List.{List}
-use Prim.Native.Nat.{ℕ, suc, ◌+◌, ◌%◌, ◌^◌, ◌≤◌, ◌<◌}
-use native.Mathlib.Nat.{le_refl, lt_of_lt_of_le, mod-eq_of_lt}
+use Prim.Native.Nat.{ℕ, suc, ◌+◌, ◌≤◌, ◌<◌}
+use native.Mathlib.Nat.{le_refl, lt_of_lt_of_le}
 use native.Mathlib.Omega.{arith}
 use lib.ListN.{get_or, set, length, length-set}
 use lib.Seq.{get_or-set_same, get_or-set_other}
@@ -64,8 +64,6 @@ room_left {R} {P} {Q} {tail} x c l e = pigeons (length R) (suc tail) f below one
         (is i h)
 
 -- a couple's number, which two bytes hold
-pub narrowed : {R P Q : List ℕ} {tail c x : ℕ} → Room R P Q tail → c < length R → x ≡ c % 2 ^ 16 → x ≡ c
-narrowed x l e = e ∙ mod-eq_of_lt (omega (arith, x.few))
 
 pub room_free : {R P Q : List ℕ} {tail : ℕ} → Room R P Q tail → (c : ℕ) → c < length R → get_or R c 0 ≡ unweighed → (tail < length Q) × (tail < most_couples)
 room_free x c l e = (omega (arith, room_left x c l e, x.long), omega (arith, room_left x c l e, x.few))
@@ -90,35 +88,8 @@ module _ {r p : ℕ} {R P Q : List ℕ} {tail : ℕ} where
   }
 
   -- a couple that has a weight, which it keeps with its parent
-  same_at : (c : ℕ) → Room R P Q tail → (get_or R c 0 ≡ unweighed → ⊥) → (get_or R c 0 ≡ r → get_or P c 0 ≤ p) → Pushed (λ d. d ≡ c) r p R P Q tail R P Q tail
-  same_at c x n o = record {
-    room = x;
-    same_length = refl;
-    fresh = λ a f. f;
-    more = le_refl _;
-    kept = λ i l. refl;
-    offer = λ d. same (λ q e. n (ap (λ (y : ℕ). get_or R y 0) (sym q) ∙ e)) (λ q e. rw q (o (ap (λ (y : ℕ). get_or R y 0) (sym q) ∙ e))) refl refl;
-  }
-
-  pub push_least : (c : ℕ) → Room R P Q tail → (get_or R c 0 ≡ unweighed → ⊥) → get_or P c 0 ≤ p → Pushed (λ d. d ≡ c) r p R P Q tail R P Q tail
-  push_least c x n o = same_at c x n (λ _. o)
-
-  pub push_other : (c : ℕ) → Room R P Q tail → (get_or R c 0 ≡ unweighed → ⊥) → (get_or R c 0 ≡ r → ⊥) → Pushed (λ d. d ≡ c) r p R P Q tail R P Q tail
-  push_other c x n o = same_at c x n (λ e. absurd (o e))
 
   -- a couple of weight r with a higher parent
-  pub push_lower : (c : ℕ) → Room R P Q tail → c < length R → get_or R c 0 ≡ r → p < get_or P c 0 → Pushed (λ d. d ≡ c) r p R P Q tail R (set P c p) Q tail
-  push_lower c x l e f = record {
-    room = record { parents_long = rw length-set x.parents_long; long = x.long; few = x.few; low = x.low; once = x.once; marked = x.marked };
-    same_length = refl;
-    fresh = λ a g. g;
-    more = le_refl _;
-    kept = λ i k. refl;
-    offer = λ d. ⊎_elim
-        (λ q. lower q (rw q e) (rw q f) (rw q e) (rw q (get_or-set_same P c p 0 (omega (arith, x.parents_long)))))
-        (λ q. same (λ g. absurd (q g)) (λ g. absurd (q g)) refl (get_or-set_other P c d p 0 q))
-        (equal_or d c);
-  }
 
   -- a couple without a weight
   pub push_given : (c : ℕ) → Room R P Q tail → c < length R → r < unweighed → get_or R c 0 ≡ unweighed

@@ -2,5 +2,5 @@
 pub mod Levels
 pub mod Queue
 pub mod Engine
-pub mod Turns
+pub mod Lent
 pub mod Parts

@@ -1,21 +1,59 @@
 // The changes from a couple of the queue: single ones, an input flipped, and multiple ones, to any other setting.
-ghost use Rattle.std.specs.Prelude.{◌≡◌, true, List, ℕ, ◌^◌, ◌<◌};
+ghost use Rattle.std.specs.Prelude.{◌≡◌, true, ◌^◌, ◌<◌};
 ghost use Rattle.verdict.specs.Checks.{Decides};
 ghost use Rattle.machine.specs.Limits.{most_inputs, most_settings};
+ghost use Rattle.machine.specs.Couples.{differing};
 ghost use Rattle.machine.specs.inner.Flips.{flipped};
-ghost use Rattle.machine.specs.Runs.{machine_by};
-ghost use Rattle.marking.specs.inner.Queue.{Pushed};
-ghost use Rattle.marking.specs.inner.Engine.{Kind, ByInputs, BySettings, ByRest, Expands};
+ghost use Rattle.tables.specs.Tables.{machine_in};
+ghost use Rattle.marking.specs.inner.Engine.{weight_of, tried, Told, ByRest, Expands};
+ghost use Rattle.marking.specs.inner.Lent.{Lent, PushedIn};
 
-use crate::queue::{Offered, Sizes, change};
-use basics::{narrow, wide};
-use machine::usable;
+use crate::EXTRA;
+use crate::queue::{Offered, Queue};
+use tables::Job;
+use tables::jobs::SoundJob;
 
-// What a head of the queue offers: a weight, by single changes or by multiple ones.
+// Which changes a head of the queue makes.
 #[derive(Clone, Copy)]
-pub(crate) struct Round {
-    pub(crate) weight: u32,
-    pub(crate) many: bool,
+pub(crate) enum Changes {
+    Single,
+    Multiple,
+}
+
+impl Changes {
+    // What one of them weighs.
+    pub(crate) fn weight(self) -> u32
+        ensures { result ≡ weight_of self }
+    {
+        match self {
+            Changes::Single => 1,
+            Changes::Multiple => EXTRA + 1,
+        }
+    }
+
+    // How many are tried from a setting.
+    fn tried(self, sound: SoundJob) -> usize
+        ensures { result ≡ tried self (machine_in sound.entry.job) }
+    {
+        match self {
+            Changes::Single => sound.job.frame.inputs,
+            Changes::Multiple => sound.settings(),
+        }
+    }
+
+    // The setting to which the one with number i leads, where a run may make it.
+    fn to(self, sound: SoundJob, from: usize, i: usize) -> Option<usize>
+        requires { (from < 2 ^ sound.job.frame.inputs) × (i < tried self (machine_in sound.job)) }
+        ensures { Told self (machine_in sound.entry.job) from i result }
+    {
+        match self {
+            Changes::Single => {
+                let to = flip(from, i);
+                sound.job.frame.usable(to).then_some(to)
+            }
+            Changes::Multiple => many_change(sound.job, from, i).then_some(i),
+        }
+    }
 }
 
 // The setting with input i flipped.
@@ -23,133 +61,38 @@ fn flip(setting: usize, i: usize) -> usize
     requires { (i < most_inputs) × (setting < most_settings) }
     ensures { result ≡ flipped setting (2 ^ i) }
 {
-    let weight: usize = 1 << i;
-    if (setting >> i) % 2 == 0 {
-        setting + weight
-    } else {
-        setting - weight
-    }
-}
-
-// From a couple, a change of each input, to a setting that is not ruled out.
-fn expand(
-    table: &[u8],
-    weights: &mut [u32],
-    parents: &mut [u16],
-    queue: &mut [u16],
-    tail: usize,
-    sizes: Sizes,
-    couple: usize,
-    weight: u32,
-) -> usize
-    requires { Expands table.now weights.old parents.old queue.old sizes.settings sizes.frame.inputs tail couple weight }
-    ensures { Pushed (ByInputs (machine_by sizes.several sizes.frame table.now) sizes.settings couple sizes.frame.inputs) weight couple weights.old parents.old queue.old tail weights.new parents.new queue.new result }
-{
-    let frame = sizes.frame;
-    let state = couple / sizes.settings;
-    let setting = couple % sizes.settings;
-    let offer = Offered {
-        weight: weight,
-        parent: narrow(couple),
-    };
-    let mut end = tail;
-    let mut i: usize = 0;
-    while i < frame.inputs {
-        let to = flip(setting, i);
-        i += 1;
-        if usable(frame, to) {
-            end = change(
-                table,
-                weights,
-                parents,
-                queue,
-                end,
-                sizes.settings,
-                state,
-                to,
-                offer,
-            );
-        }
-    }
-    end
+    setting ^ (1 << i)
 }
 
 // Whether a run may make a change, and it is of two inputs or more.
-fn many_change(sizes: Sizes, from: usize, to: usize) -> bool
-    requires { (sizes.settings ≡ 2 ^ sizes.frame.inputs) × (from < sizes.settings) × (to < sizes.settings) }
-    ensures { (table : List ℕ) → Decides (Kind true sizes.frame.inputs from to × ((machine_by sizes.several sizes.frame table).may_change from to ≡ true)) result }
+fn many_change(job: Job, from: usize, to: usize) -> bool
+    requires { (from < 2 ^ job.frame.inputs) × (to < 2 ^ job.frame.inputs) }
+    ensures { Decides ((1 < differing job.entry.frame.inputs from to) × ((machine_in job.entry).may_change from to ≡ true)) result }
 {
-    if !sizes.several {
-        return false;
-    }
-    if usize::count_ones(from ^ to) < 2 {
-        return false;
-    }
-    usable(sizes.frame, to)
+    job.several && usize::count_ones(from ^ to) >= 2 && job.frame.usable(to)
 }
 
-// From a couple, each change of two inputs or more that a run may make.
-fn expand_many(
-    table: &[u8],
-    weights: &mut [u32],
-    parents: &mut [u16],
-    queue: &mut [u16],
-    tail: usize,
-    sizes: Sizes,
-    couple: usize,
-    weight: u32,
-) -> usize
-    requires { Expands table.now weights.old parents.old queue.old sizes.settings sizes.frame.inputs tail couple weight }
-    ensures { Pushed (BySettings (machine_by sizes.several sizes.frame table.now) sizes.settings true couple sizes.settings) weight couple weights.old parents.old queue.old tail weights.new parents.new queue.new result }
-{
-    let state = couple / sizes.settings;
-    let setting = couple % sizes.settings;
-    let offer = Offered {
-        weight: weight,
-        parent: narrow(couple),
-    };
-    let mut end = tail;
-    let mut next: usize = 0;
-    while next < sizes.settings {
-        let to = next;
-        next += 1;
-        if many_change(sizes, setting, to) {
-            end = change(
-                table,
-                weights,
-                parents,
-                queue,
-                end,
-                sizes.settings,
-                state,
-                to,
-                offer,
-            );
+impl<'a> Queue<'a> {
+    // A couple of the queue, expanded where it is at rest: each change of a kind that a run may make.
+    pub(crate) fn expand(&mut self, sound: SoundJob, changes: Changes, couple: usize, weight: u32)
+        requires { Expands (machine_in sound.job) self.old.weights.now self.old.parents.now self.old.couples.now self.old.tail couple weight }
+        ensures pushed { PushedIn (ByRest changes (machine_in sound.entry.job) couple) weight couple self.old self.new }
+        ensures lent { Lent self.old self.new }
+    {
+        let settings = sound.settings();
+        let state = couple / settings;
+        let setting = couple % settings;
+        if usize::from(sound.job.table[couple]) != state {
+            return;
+        }
+        let offer = Offered {
+            weight,
+            parent: couple as u16,
+        };
+        for i in 0..changes.tried(sound) {
+            if let Some(to) = changes.to(sound, setting, i) {
+                self.change(sound, state, to, offer);
+            }
         }
     }
-    end
-}
-
-// A couple of the queue, expanded where it is at rest.
-pub(crate) fn take(
-    table: &[u8],
-    weights: &mut [u32],
-    parents: &mut [u16],
-    queue: &mut [u16],
-    tail: usize,
-    sizes: Sizes,
-    couple: usize,
-    round: Round,
-) -> usize
-    requires { Expands table.now weights.old parents.old queue.old sizes.settings sizes.frame.inputs tail couple round.weight }
-    ensures { Pushed (ByRest (machine_by sizes.several sizes.frame table.now) sizes.settings round.many couple) round.weight couple weights.old parents.old queue.old tail weights.new parents.new queue.new result }
-{
-    if wide(table[couple]) != couple / sizes.settings {
-        return tail;
-    }
-    let weight = round.weight;
-    if round.many {
-        return expand_many(table, weights, parents, queue, tail, sizes, couple, weight);
-    }
-    expand(table, weights, parents, queue, tail, sizes, couple, weight)
 }

@@ -1,22 +1,21 @@
 // The queue of marking: couples enter it when they get a weight.
-ghost use Rattle.std.specs.Prelude.{◌≡◌, ℕ, ◌+◌, ◌*◌, ◌≤◌, ◌<◌, length};
-ghost use Rattle.machine.specs.Runs.{machine_of, machine_by};
-ghost use Rattle.tables.specs.Tables.{Tabled};
+ghost use Rattle.std.specs.Prelude.{◌≡◌, ℕ, ◌^◌, ◌<◌, length};
+ghost use Rattle.machine.specs.Runs.{size, couples};
 ghost use Rattle.several.specs.Weights.{unweighed};
-ghost use Rattle.marking.specs.inner.Queue.{Room, Pushed};
-ghost use Rattle.marking.specs.inner.Engine.{ByChange, ByStart, ByStarts, Targets};
+ghost use Rattle.tables.specs.Tables.{machine_in};
+ghost use Rattle.marking.specs.inner.Engine.{ByChange, ByStarts};
+ghost use Rattle.marking.specs.inner.Lent.{Lent, RoomIn, RoomFor, PushedIn};
 
 use crate::UNWEIGHED;
-use basics::{narrow, wide};
-use machine::Frame;
-use tables::is_start;
+use tables::jobs::{SizedJob, SoundJob};
 
-// A machine's frame, how many settings it has, and whether several inputs may change at once.
-#[derive(Clone, Copy)]
-pub(crate) struct Sizes {
-    pub(crate) frame: Frame,
-    pub(crate) settings: usize,
-    pub(crate) several: bool,
+// The weight and parent of each couple as far as they are told, and the couples that have a weight: the first `tail` of the queue.
+#[derive(Drop)]
+pub(crate) struct Queue<'a> {
+    pub(crate) weights: &'a mut [u32],
+    pub(crate) parents: &'a mut [u16],
+    pub(crate) couples: &'a mut [u16],
+    pub(crate) tail: usize,
 }
 
 // What a change offers to the couples that it visits: a weight, and the couple before it as parent.
@@ -26,98 +25,52 @@ pub(crate) struct Offered {
     pub(crate) parent: u16,
 }
 
-// A couple without a weight takes the one offered and enters the queue; of two parents of that weight the smaller one stays. Answers the
-// queue's end.
-pub(crate) fn push(
-    weights: &mut [u32],
-    parents: &mut [u16],
-    queue: &mut [u16],
-    tail: usize,
-    couple: usize,
-    offer: Offered,
-) -> usize
-    requires { Room weights.old parents.old queue.old tail × (couple < length weights.old) × (offer.weight < unweighed) }
-    ensures { Pushed (λ (d : ℕ). d ≡ couple) offer.weight offer.parent weights.old parents.old queue.old tail weights.new parents.new queue.new result }
-{
-    if weights[couple] == UNWEIGHED {
-        weights[couple] = offer.weight;
-        parents[couple] = offer.parent;
-        queue[tail] = narrow(couple);
-        return tail + 1;
-    }
-    if weights[couple] == offer.weight {
-        if offer.parent < parents[couple] {
-            parents[couple] = offer.parent;
-            return tail;
+impl<'a> Queue<'a> {
+    // A couple without a weight takes the one offered and enters the queue; of two parents of that weight the smaller one stays.
+    fn push(&mut self, couple: usize, offer: Offered)
+        requires { RoomIn self.old × (couple < length self.old.weights.now) × (offer.weight < unweighed) }
+        ensures pushed { PushedIn (λ (d : ℕ). d ≡ couple) offer.weight offer.parent self.old self.new }
+        ensures lent { Lent self.old self.new }
+    {
+        if self.weights[couple] == UNWEIGHED {
+            self.weights[couple] = offer.weight;
+            self.parents[couple] = offer.parent;
+            self.couples[self.tail] = couple as u16;
+            self.tail += 1;
+        } else if self.weights[couple] == offer.weight && offer.parent < self.parents[couple] {
+            self.parents[couple] = offer.parent;
         }
     }
-    tail
-}
 
-// In a state, a change to a setting: both couples that it visits.
-pub(crate) fn change(
-    table: &[u8],
-    weights: &mut [u32],
-    parents: &mut [u16],
-    queue: &mut [u16],
-    tail: usize,
-    settings: usize,
-    state: usize,
-    setting: usize,
-    offer: Offered,
-) -> usize
-    requires { Room weights.old parents.old queue.old tail × Targets table.now weights.old settings state setting × (offer.weight < unweighed) }
-    ensures { Pushed (ByChange table.now settings state setting) offer.weight offer.parent weights.old parents.old queue.old tail weights.new parents.new queue.new result }
-{
-    let couple = state * settings + setting;
-    let moved = wide(table[couple]) * settings + setting;
-    let between = push(weights, parents, queue, tail, couple, offer);
-    if moved == couple {
-        return between;
+    // In a state, a change to a setting: both couples that it visits.
+    pub(crate) fn change(&mut self, sound: SoundJob, state: usize, setting: usize, offer: Offered)
+        requires room { RoomFor (machine_in sound.job) self.old × (offer.weight < unweighed) }
+        requires inside { (state < sound.job.frame.states) × (setting < 2 ^ sound.job.frame.inputs) }
+        ensures pushed { PushedIn (ByChange (machine_in sound.entry.job) state setting) offer.weight offer.parent self.old self.new }
+        ensures lent { Lent self.old self.new }
+    {
+        let couple = sound.couple(state, setting);
+        let moved = sound.couple(sound.moved(state, setting), setting);
+        self.push(couple, offer);
+        if moved != couple {
+            self.push(moved, offer);
+        }
     }
-    push(weights, parents, queue, between, moved, offer)
-}
 
-// Where a setting is a start, its couple of the initial state.
-fn give_start(
-    table: &[u8],
-    weights: &mut [u32],
-    parents: &mut [u16],
-    queue: &mut [u16],
-    tail: usize,
-    sizes: Sizes,
-    setting: usize,
-) -> usize
-    requires { Room weights.old parents.old queue.old tail × Tabled (machine_of sizes.frame table.now) × (sizes.frame.initial * sizes.settings + setting < length weights.old) }
-    ensures { Pushed (ByStart (machine_by sizes.several sizes.frame table.now) sizes.settings setting) 0 0 weights.old parents.old queue.old tail weights.new parents.new queue.new result }
-{
-    let frame = sizes.frame;
-    if is_start(frame, table, setting) {
-        let couple = frame.initial * sizes.settings + setting;
+    // Each setting that is a start: its couple of the initial state, by no change.
+    pub(crate) fn give_starts(&mut self, sized: SizedJob)
+        requires { RoomFor (machine_in sized.job) self.old }
+        ensures pushed { PushedIn (ByStarts (machine_in sized.entry.job) (size (machine_in sized.entry.job))) 0 0 self.old self.new }
+        ensures lent { Lent self.old self.new }
+    {
         let offer = Offered {
             weight: 0,
             parent: 0,
         };
-        return push(weights, parents, queue, tail, couple, offer);
+        for v in 0..sized.settings() {
+            if sized.is_start(v) {
+                self.push(sized.couple(sized.job.frame.initial, v), offer);
+            }
+        }
     }
-    tail
-}
-
-pub(crate) fn give_starts(
-    table: &[u8],
-    weights: &mut [u32],
-    parents: &mut [u16],
-    queue: &mut [u16],
-    sizes: Sizes,
-) -> usize
-    requires { Room weights.old parents.old queue.old 0 × Tabled (machine_of sizes.frame table.now) × (sizes.frame.initial * sizes.settings + sizes.settings ≤ length weights.old) }
-    ensures { Pushed (ByStarts (machine_by sizes.several sizes.frame table.now) sizes.settings sizes.settings) 0 0 weights.old parents.old queue.old 0 weights.new parents.new queue.new result }
-{
-    let mut tail: usize = 0;
-    let mut v: usize = 0;
-    while v < sizes.settings {
-        tail = give_start(table, weights, parents, queue, tail, sizes, v);
-        v += 1;
-    }
-    tail
 }

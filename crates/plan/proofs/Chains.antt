@@ -1,20 +1,19 @@
 -- The settings along a chain of parents, and the stored runs made of them: each law goes one couple back along the chain, or one
 -- couple up in the plan.
-use mathlib.Core.Path.{◌≡◌, refl, ap, ◌∙◌}
+use mathlib.Core.Path.{◌≡◌, refl}
 use mathlib.Core.Logic.{⊎_elim}
 use mathlib.Core.List.{List, [], ◌∷◌, ◌++◌, append_assoc}
 use mathlib.Core.Bool.{Bool, true, false, cond}
 use Prim.Native.Nat.{ℕ, zero, suc, ◌+◌, ◌/◌, ◌%◌, ◌≤◌, ◌<◌}
 use native.Mathlib.Numerals.{add-one}
-use native.Mathlib.Nat.{mod-lt, eq-or-lt_of_le}
+use native.Mathlib.Nat.{eq-or-lt_of_le}
 use native.Mathlib.Omega.{arith}
+use Rattle.std.proofs.lemmas.List.{drop-set}
 use lib.ListN.{length, get_or, set, drop, length-append}
-use Rattle.machine.specs.Limits.{most_settings}
 use Rattle.machine.specs.Plans.{stored_run}
 use Rattle.machine.specs.inner.Model.{followed}
 use Rattle.several.specs.Weights.{extra}
-use Rattle.plan.specs.inner.Writing.{settings, stored_by, piece, pieces, InTree}
-use Rattle.plan.proofs.Fronts.{drop_set_here}
+use Rattle.plan.specs.inner.Writing.{settings, stored_by, piece, pieces}
 
 -- what stands behind the settings stays there
 followed_front : (size : ℕ) (parent : ℕ → ℕ) (k c : ℕ) (vs ws : List ℕ) → followed size parent k c (vs ++ ws) ≡ followed size parent k c vs ++ ws
@@ -38,23 +37,12 @@ module _ (P : List ℕ) (z : ℕ) where
   -- one setting written, one fewer is left
   pub settings_back : (c m n : ℕ) (l : List ℕ) → n ≡ m + 1 → m < length l
       → settings P z (get_or P c 0) m ++ drop m (set l m (c % z)) ≡ settings P z c n ++ drop n l
-  settings_back c m n l e h =
-      rw (e, add-one m, settings_more, append_assoc) (ap (λ (t : List ℕ). settings P z (get_or P c 0) m ++ t) (drop_set_here l m (c % z) h))
-
-pub parent_in_tree : {P : List ℕ} {z c : ℕ} (w : InTree P z c) → InTree P z (get_or P c 0)
-parent_in_tree {P} {z} {c} w = record { total = w.total; tree = w.tree; below = w.tree.parent c w.below }
-
-pub setting_small : {P : List ℕ} {z c : ℕ} (w : InTree P z c) → (d : ℕ) → d % z < most_settings
-setting_small {P} {z} w d = omega (arith, mod-lt d w.tree.some, w.tree.small)
+  settings_back c m n l e h = rw (drop-set l m (c % z) h, e, add-one m, settings_more, append_assoc) refl
 
 -- the stored run to a couple, of r changes
 module _ (P : List ℕ) (z c r : ℕ) where
   pub length_stored : length (stored_run (settings P z c (r + 1))) ≡ r + 3
   length_stored = rw (length_settings P z (r + 1) c) (omega arith)
-
-  -- its count bytes
-  pub count_bytes : stored_run (settings P z c (r + 1)) ≡ ((r + 1) % 256 ∷ (r + 1) / 256 ∷ []) ++ settings P z c (r + 1)
-  count_bytes = rw (length_settings P z (r + 1) c) refl
 
 -- what the list stores of it, and the plan
 pub list_stores : (P : List ℕ) (z c w : ℕ)
@@ -70,9 +58,6 @@ pub length_by : (several : Bool) (P : List ℕ) (z c w : ℕ) → length (stored
 unfolding stored_by
 length_by true P z c w = omega (arith, length_stored P z c (w % extra))
 length_by false P z c w = length_stored P z c (w % extra)
-
-pub length_when : (P : List ℕ) (z c w : ℕ) {several b : Bool} → several ≡ b → length (stored_by several P z c w) ≡ w % extra + cond b 5 3
-length_when P z c w {several} e = length_by several P z c w ∙ ap (λ (d : Bool). w % extra + cond d 5 3) e
 
 -- the stored runs of chosen couples
 module _ (several : Bool) (P W : List ℕ) (z : ℕ) (C : List Bool) where

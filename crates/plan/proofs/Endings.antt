@@ -23,7 +23,7 @@ use Rattle.marking.proofs.Checks.{without_parents}
 use Rattle.plan.specs.Planning.{ShortRun, RunDone, ShortOf, WholeDone}
 use Rattle.plan.specs.inner.Writing.{settings, Ends, unvisited_by, RunEnds}
 use Rattle.plan.proofs.Bytes.{is_marked, not_marked}
-use Rattle.plan.proofs.Marked.{Ready}
+use Rattle.plan.proofs.Ready.{Ready}
 
 -- how a function ends that fills ranks of machine k, goes on after marking with later checks, and writes a list of which Is holds
 pub record Ended (m k : Machine) (later : List Check) (done : Answer → Type 0) (Is : List ℕ → Type 0) (ranks₀ out₀ : List ℕ) (a : Answer) (ranks₁ out₁ : List ℕ) : Type 0 where

@@ -8,9 +8,8 @@ use native.Mathlib.Nat.{eq-or-lt_of_le, le_refl}
 use native.Mathlib.Omega.{arith}
 use lib.ListN.{length, get_or, length-set, length-append}
 use lib.Seq.{get_or-set_same, get_or-set_other}
-use Rattle.machine.specs.Limits.{unmarked}
 use Rattle.several.specs.Weights.{extra, unweighed}
-use Rattle.plan.specs.inner.Writing.{stored_by, piece, pieces, Flags}
+use Rattle.plan.specs.inner.Writing.{stored_by, piece, pieces}
 use Rattle.plan.specs.inner.Choosing.{wanted, bytes_at, noted, flags, bytes, plan, Chosen}
 use Rattle.plan.proofs.Chains.{length_by}
 use Rattle.plan.proofs.Turns.{looks_weighed, wanted_looks}
@@ -59,9 +58,7 @@ module _ {several : Bool} {T P W : List ℕ} {z t n : ℕ} {F C F' C' : List Boo
     chosen_plan = rw p.chosen_are (pieces_plan several T P W z t t F C l (le_refl t))
 
     -- the chosen couples have runs
-    pub chosen_flags : t ≤ length W → ((c : ℕ) → c < t → (get_or W c 0 ≡ unweighed → ⊥) → get_or W c 0 % extra < unmarked) → Flags W C' t
-    chosen_flags m low = rw p.chosen_are (record {
-      weights_long = m;
-      flags_long = rw (length_flags several T P W z t F C) l;
-      short = λ c h f. low c h (looks_weighed several (get_or W c 0) (wanted_looks several W (noted several T P W z c F) c (sym (flag_is several T P W z t c F C l h) ∙ f)));
-    })
+    pub chosen_weighed : (c : ℕ) → c < t → get_or C' c false ≡ true → get_or W c 0 ≡ unweighed → ⊥
+    chosen_weighed c h f =
+        let e : wanted several W (noted several T P W z c F) c ≡ true = sym (flag_is several T P W z t c F C l h) ∙ (rw p.chosen_are at f) in
+        looks_weighed several (get_or W c 0) (wanted_looks several W (noted several T P W z c F) c e)

@@ -1,40 +1,33 @@
 -- What is written at the front of a lent buffer, and then at the front of its rest, stands there one behind the other: by the laws of
 -- take and drop.
 use mathlib.Core.Path.{◌≡◌, refl, sym, ap, ap₂, subst, ◌∙◌}
-use mathlib.Core.List.{List, [], ◌∷◌, ◌++◌, append_assoc, append-nil}
-use Prim.Native.Nat.{ℕ, suc, ◌+◌, ◌-◌, ◌≤◌, ◌<◌}
+use mathlib.Core.List.{List, [], ◌++◌, append_assoc, append-nil}
+use Prim.Native.Nat.{ℕ, ◌+◌, ◌-◌, ◌≤◌, ◌<◌}
 use native.Mathlib.Omega.{arith}
-use lib.ListN.{length, set, drop, take, length-append, length-drop}
-use lib.Seq.{drop-cons, get_or-set_same, drop-set-lt, drop-drop, drop-length, take_at, drop_at, lt-length-set}
+use Rattle.std.proofs.lemmas.List.{take_rest}
+use lib.ListN.{length, drop, take, length-append, length-drop}
+use lib.Seq.{drop-drop, drop-length, take_at, drop_at}
 use borrow.Rule.Slice.PartMut.{Post-is}
 use Rattle.verdict.specs.Buffers.{Front}
-use Rattle.verdict.proofs.Fills.{rest_lent}
 use Rattle.plan.specs.inner.Writing.{Put, Ends}
-
--- from index m on, after a write at m
-pub drop_set_here : (l : List ℕ) (m v : ℕ) → m < length l → drop m (set l m v) ≡ v ∷ drop (suc m) l
-drop_set_here l m v h =
-    drop-cons (set l m v) m 0 (lt-length-set l m v h) ∙ ap₂ (λ (x : ℕ) (t : List ℕ). x ∷ t) (get_or-set_same l m v 0 h) (drop-set-lt (suc m) l m v (omega arith))
-
--- the first two elements, written
-pub set_two : (l : List ℕ) (a b : ℕ) → 2 ≤ length l → set (set l 0 a) 1 b ≡ a ∷ b ∷ drop 2 l
-set_two [] a b h = absurd (omega arith)
-set_two (x ∷ []) a b h = absurd (omega arith)
-set_two (x ∷ y ∷ l) a b h = refl
 
 -- the length of the rest that is lent
 pub length_rest : (l : List ℕ) (a : ℕ) → length (take (length l - a) (drop a l)) ≡ length l - a
-length_rest l a = ap length (rest_lent l a) ∙ length-drop a l
+length_rest l a = ap length (take_rest l a) ∙ length-drop a l
 
 -- the rest of l from a on was lent and came back as w and what stood behind it: so did l
 rest_back : (l : List ℕ) (a n : ℕ) (w m : List ℕ) → a ≤ length l → m ≡ w ++ drop n (take (length l - a) (drop a l))
     → take a l ++ (m ++ drop (length l - a) (drop a l)) ≡ take a l ++ (w ++ drop (a + n) l)
 rest_back l a n w m h e =
-    rw (e, rest_lent l a, drop-drop n a l, Post-is a (length l) l h, drop-length l, append-nil)
+    rw (e, take_rest l a, drop-drop n a l, Post-is a (length l) l h, drop-length l, append-nil)
 
 -- that is the front
 pub put_front : {w : List ℕ} {n : ℕ} {a b : List ℕ} → Put w n a b → Front w a b
 put_front {w} {n} {a} {b} p = record { is = subst (λ (k : ℕ). b ≡ w ++ drop k a) p.count p.is }
+
+-- the first n elements were lent, and came back as w
+pub front_of : {w x a : List ℕ} {n : ℕ} → x ≡ w → length w ≡ n → Front w a (x ++ drop n a)
+front_of {w} {x} {a} e l = record { is = rw (e, ← l) refl }
 
 -- what is written, or would be, has n elements
 module _ {w a : List ℕ} {n : ℕ} (e : n ≡ length w) where

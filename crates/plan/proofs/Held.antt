@@ -11,7 +11,7 @@ use Rattle.verdict.specs.declared.Answer.{Answer}
 use Rattle.verdict.proofs.Order.{judged_passes, judged_done}
 use Rattle.machine.specs.Runs.{Machine, couples, Marked}
 use Rattle.machine.specs.Plans.{Plan, stored}
-use Rattle.tables.specs.inner.Fits.{Checked}
+use Rattle.tables.specs.Tables.{Checked}
 use Rattle.several.specs.Several.{singly, MultiRunTo}
 use Rattle.several.specs.Lists.{MultiList, stored_list}
 use Rattle.several.proofs.Runs.{multi_unique}

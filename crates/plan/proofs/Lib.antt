@@ -5,7 +5,7 @@ pub mod Flags
 pub mod Visits
 pub mod Noted
 pub mod Bytes
-pub mod Marked
+pub mod Ready
 pub mod Endings
 pub mod Outcomes
 pub mod Once

@@ -11,7 +11,7 @@ use Rattle.verdict.proofs.Fills.{left_unique, written_unique}
 use Rattle.machine.specs.Runs.{Machine, couples, Marked}
 use Rattle.machine.proofs.Small.{rank_unique}
 use Rattle.machine.proofs.Shortest.{run_to_unique}
-use Rattle.tables.specs.inner.Fits.{Checked}
+use Rattle.tables.specs.Tables.{Checked}
 use Rattle.several.specs.Several.{singly, MultiRunTo}
 use Rattle.several.proofs.Runs.{multi_unique}
 use Rattle.marking.specs.Marking.{mark_checks}

@@ -5,9 +5,13 @@ use mathlib.Core.List.{List, [], ◌∷◌}
 use mathlib.Core.Bool.{Bool, true, false}
 use Prim.Native.Nat.{ℕ, ◌+◌, ◌%◌, ◌^◌, ◌<◌}
 use native.Mathlib.Numerals.{add-one}
+use native.Mathlib.Omega.{arith}
 use lib.ListN.{length, get_or}
 use Rattle.verdict.specs.Checks.{Check, check, Unless}
+use Rattle.verdict.specs.Refusals.{refused_by}
 use Rattle.verdict.specs.declared.Answer.{Answer}
+use Rattle.verdict.specs.declared.Refusal.{Refusal}
+use Rattle.verdict.proofs.Refusals.{refusal_number}
 use Rattle.verdict.proofs.Fills.{left_map}
 use Rattle.machine.specs.Limits.{most_couples}
 use Rattle.machine.specs.Runs.{Machine, machine_by, size, couples, Sound, Marked, RankOrUnmarked}
@@ -32,7 +36,7 @@ use Rattle.plan.proofs.Chains.{length_settings}
 use Rattle.plan.proofs.Visits.{Told}
 use Rattle.plan.proofs.Noted.{run_of, run_of_lem}
 use Rattle.plan.proofs.Bytes.{run_single, plan_made, list_made}
-use Rattle.plan.proofs.Marked.{Ready}
+use Rattle.plan.proofs.Ready.{Ready}
 use Rattle.plan.proofs.Endings.{Ended, refused, Sixteen, whole_sixteen, rank_sixteen, whole_ended, run_ended}
 
 -- the stored plan is one
@@ -83,14 +87,13 @@ plan_as true f T e = record { verdict = e.verdict; ranks = e.ranks; list = e.wri
 plan_as false f T e = record { verdict = e.verdict; ranks = left_map (λ c x. subst (λ (m : Machine). RankOrUnmarked m c x) (singly_by false f T)) e.ranks; plan = e.written }
 
 -- marking refused
-module _ (several : Bool) (f : Frame) (T : List ℕ) {ranks₀ weights₀ parents₀ ranks₁ weights₁ parents₁ : List ℕ} {a : Answer}
-    (p : ParentedAs (machine_by several f T) ranks₀ weights₀ parents₀ a ranks₁ weights₁ parents₁) (weighs : length weights₀ ≡ most_couples) (lent : length parents₀ ≡ most_couples)
-    (no_zero : a.number ≡ 0 → ⊥) where
-  pub run_refused : (c : ℕ) (run : List ℕ) → RunBy several f T c ranks₀ run a ranks₁ run
-  run_refused c run = run_as several f T (refused p weighs lent no_zero)
+module _ (several : Bool) (f : Frame) (T : List ℕ) (r : Refusal) {ranks₀ weights₀ parents₀ ranks₁ weights₁ parents₁ : List ℕ}
+    (p : ParentedAs (machine_by several f T) ranks₀ weights₀ parents₀ (refused_by r) ranks₁ weights₁ parents₁) (weighs : length weights₀ ≡ most_couples) (lent : length parents₀ ≡ most_couples) where
+  pub run_refused : (c : ℕ) (run : List ℕ) → RunBy several f T c ranks₀ run (refused_by r) ranks₁ run
+  run_refused c run = run_as several f T (refused p weighs lent (λ e. omega (arith, refusal_number r)))
 
-  pub plan_refused : (out : List ℕ) → PlanBy several f T ranks₀ out a ranks₁ out
-  plan_refused out = plan_as several f T (refused p weighs lent no_zero)
+  pub plan_refused : (out : List ℕ) → PlanBy several f T ranks₀ out (refused_by r) ranks₁ out
+  plan_refused out = plan_as several f T (refused p weighs lent (λ e. omega (arith, refusal_number r)))
 
 -- by weights and parents, the run to a couple and the plan or list are right
 run_right : (several : Bool) (f : Frame) (T : List ℕ) {W P : List ℕ} (x : Told (machine_by several f T) W P) (c room : ℕ)

@@ -2,38 +2,22 @@
 use mathlib.Core.Path.{◌≡◌, refl, sym, ap, ap₂, ◌∙◌}
 use mathlib.Core.List.{List}
 use mathlib.Core.Bool.{Bool, true, false, cond}
-use Prim.Native.Nat.{ℕ, ◌+◌, ◌*◌, ◌/◌, ◌%◌, ◌≤◌, ◌<◌}
+use Prim.Native.Nat.{ℕ, ◌+◌, ◌%◌, ◌≤◌, ◌<◌}
 use native.Mathlib.Numerals.{add-one}
 use native.Mathlib.Nat.{mod-lt}
 use native.Mathlib.Omega.{arith}
 use lib.ListN.{get_or, set}
-use lib.Seq.{set-set}
 use lib.Dec.{leb}
 use borrow.Author.Tests.{eq-eqb, ne_eqb}
 use Rattle.verdict.proofs.Tests.{true≢false}
 use Rattle.several.specs.Weights.{extra, unweighed}
-use Rattle.plan.specs.inner.Choosing.{noted_change, noted_run, looks_at, wanted, noted_at, bytes_at, noted, flags, bytes, Turn, Chosen, Reach, RoomFor}
+use Rattle.plan.specs.inner.Choosing.{noted_change, noted_run, looks_at, wanted, noted_at, bytes_at, noted, flags, bytes, Turn, Chosen}
 
 -- one change noted, one fewer is left
 pub noted_back : (T P : List ℕ) (z c m n : ℕ) (F : List Bool) → n ≡ m + 1
     → noted_run T P z (get_or P c 0) m (noted_change T z (get_or P c 0) (c % z) F) ≡ noted_run T P z c n F
 unfolding noted_run
 noted_back T P z c m n F e = rw (e, add-one m)
-
-module _ {T P : List ℕ} {z l c : ℕ} (r : RoomFor T P z l c) where
-  pub parent_room : RoomFor T P z l (get_or P c 0)
-  parent_room = record { total = r.total; room = r.room; below = r.room.tree.parent c r.below }
-
-  -- the couples that a change from c visits
-  pub change_room : (v : ℕ) → v < z → Reach T z l c v
-  change_room v h =
-      let a = r.room.row c v r.below h in
-      record {
-        some = r.room.tree.some;
-        in_table = omega (arith, a, r.room.table_long);
-        in_flags = omega (arith, a, r.room.flags_long);
-        moved = omega (arith, r.room.moved (c / z * z + v) v a h, r.room.flags_long);
-      }
 
 -- at which couples the plan or list looks, by their weights
 module _ (several : Bool) (w : ℕ) where
@@ -77,34 +61,32 @@ module _ (several : Bool) (W : List ℕ) (F : List Bool) (c : ℕ) where
       go true f = refl
       go false f = absurd (true≢false (sym e ∙ wanted_not f))
 
-module _ (several : Bool) (T P W : List ℕ) (z c : ℕ) (F C : List Bool) where
-  passed_over : wanted several W F c ≡ false → Turn several T P W z c 0 F C F (set C c false)
+-- couple c in its turn, wanted or not
+module _ {several : Bool} {T P W : List ℕ} {z c : ℕ} {F C : List Bool} {b : Bool} (is : b ≡ wanted several W F c) where
+  pub turn_not : b ≡ false → Turn several T P W z c 0 F C F (set C c b)
   unfolding noted_at bytes_at
-  passed_over e = record { bytes_are = rw e refl; bytes_few = omega arith; visited_are = rw e refl; chosen_are = rw e refl }
+  turn_not e = let w = sym is ∙ e in record { bytes_are = rw w refl; bytes_few = omega arith; visited_are = rw w refl; chosen_are = rw is refl }
 
-  pub turn_not : looks_at several (get_or W c 0) ≡ false → Turn several T P W z c 0 F C F (set C c false)
-  turn_not e = passed_over (wanted_not several W F c e)
-
-  pub turn_visited : get_or F c false ≡ true → Turn several T P W z c 0 F C F (set C c false)
-  turn_visited f = passed_over (wanted_visited several W F c f)
-
-  -- the count bytes and one more are k
-  pub turn_taken : (r k : ℕ) (F' : List Bool) → cond several 5 3 ≡ k → k ≤ 5 → r ≡ get_or W c 0 % extra → looks_at several (get_or W c 0) ≡ true → get_or F c false ≡ false
-      → F' ≡ noted_run T P z c r F → Turn several T P W z c (r + k) F C F' (set (set C c false) c true)
+  pub turn_taken : b ≡ true → {n : ℕ} {F' : List Bool} → n ≡ get_or W c 0 % extra + cond several 5 3 → F' ≡ noted_run T P z c (get_or W c 0 % extra) F
+      → Turn several T P W z c n F C F' (set C c b)
   unfolding noted_at bytes_at
-  turn_taken r k F' o l i g f s =
-      let e = wanted_here several W F c g f in
+  turn_taken e {n} k s =
+      let w = sym is ∙ e in
       record {
-        bytes_are = rw (e, o, i) refl;
-        bytes_few = let h : get_or W c 0 % extra < extra = mod-lt (get_or W c 0) (omega arith) in omega arith;
-        visited_are = rw (e, ← i) s;
-        chosen_are = rw e (set-set C c false true);
+        bytes_are = rw w k;
+        bytes_few = let h : get_or W c 0 % extra < extra = mod-lt (get_or W c 0) (omega arith) in omega (arith, h, k, counts several);
+        visited_are = rw w s;
+        chosen_are = rw is refl;
       }
+    where
+      counts : (d : Bool) → cond d 5 3 ≤ 5
+      counts true = omega arith
+      counts false = omega arith
 
-module _ (several : Bool) (T P W : List ℕ) (z : ℕ) where
-  pub chosen_none : (F C : List Bool) → Chosen several T P W z 0 0 F C F C
+module _ {several : Bool} {T P W : List ℕ} {z : ℕ} where
+  pub chosen_none : {F C : List Bool} → Chosen several T P W z 0 0 F C F C
   unfolding noted flags bytes
-  chosen_none F C = record { bytes_are = refl; bytes_few = omega arith; visited_are = refl; chosen_are = refl }
+  chosen_none = record { bytes_are = refl; bytes_few = omega arith; visited_are = refl; chosen_are = refl }
 
   pub chosen_more : {c n k : ℕ} {F C F' C' F'' C'' : List Bool} → Chosen several T P W z c n F C F' C' → Turn several T P W z c k F' C' F'' C'' → Chosen several T P W z (c + 1) (n + k) F C F'' C''
   unfolding noted flags bytes

@@ -2,3 +2,4 @@
 pub mod Writing
 pub mod Choosing
 pub mod Both
+pub mod Marks

@@ -1,109 +1,76 @@
 // The second pass: the chosen runs, written one behind the other; and the run to one couple.
-ghost use Rattle.std.specs.Prelude.{◌≡◌, [], ◌∷◌, true, false, ◌+◌, ◌/◌, ◌%◌, ◌≤◌, ◌<◌, length, get_or};
+ghost use Rattle.std.specs.Prelude.{◌≡◌, [], ◌∷◌, true, false, ℕ, ◌+◌, ◌/◌, ◌%◌, ◌≤◌, ◌<◌, length, get_or};
 ghost use Rattle.verdict.specs.Buffers.{Front};
 ghost use Rattle.machine.specs.Limits.{unmarked};
 ghost use Rattle.machine.specs.Plans.{stored_run};
-ghost use Rattle.several.specs.Weights.{extra};
-ghost use Rattle.plan.specs.inner.Writing.{settings, stored_by, piece, pieces, Tree, InTree, Put, Flags};
+ghost use Rattle.several.specs.Weights.{unweighed};
+ghost use Rattle.plan.specs.inner.Writing.{Put};
+ghost use Rattle.plan.specs.inner.Marks.{run_in, stored_in, pieces_in};
 
-use basics::{byte, large, long};
+use crate::marked::Marked;
+use machine::COUPLES;
 use marking::EXTRA;
 
-// Writes the chosen runs one behind the other, each into the unused rest of the plan or list.
-pub(crate) fn write_plan(
-    parents: &[u16],
-    weights: &[u32],
-    chosen: &[bool],
-    size: usize,
-    couples: usize,
-    several: bool,
-    out: &mut [u8],
-)
-    requires tree { Tree parents.now size couples }
-    requires flags { Flags weights.now chosen.now couples }
-    requires couples_in_bounds { length (pieces several parents.now weights.now size chosen.now couples) ≤ length out.old }
-    ensures { Front (pieces several parents.now weights.now size chosen.now couples) out.old out.new }
-{
-    let mut at = 0;
-    for c in 0..couples {
-        at += store_chosen(parents, weights, chosen, size, c, several, &mut out[at..]);
+impl<'a> Marked<'a> {
+    // Writes the chosen runs one behind the other, each into the unused rest of the plan or list.
+    #[tactic(auto, using(crate::proofs::Fronts::put_none, crate::proofs::Fronts::put_reach, crate::proofs::Fronts::put_front, crate::proofs::Chains::pieces_none))]
+    pub(crate) fn write_plan(&self, chosen: &[bool; COUPLES], out: &mut [u8])
+        requires weighed { (c : ℕ) → c < self.now.couples → get_or chosen.now c false ≡ true → get_or self.now.weights.now c 0 ≡ unweighed → ⊥ }
+        requires fits { length (pieces_in self.now chosen.now) ≤ length out.old }
+        ensures { Front (pieces_in self.now chosen.now) out.old out.new }
+    {
+        let mut at = 0;
+        for c in 0..self.couples {
+            if chosen[c] {
+                at += self.store(c, &mut out[at..]);
+            }
+        }
+    }
+
+    // Stores the run to a couple, in the list with its multiple changes in front, and answers the bytes written.
+    fn store(&self, couple: usize, rest: &mut [u8]) -> usize
+        requires couple { (couple < self.now.couples) × (get_or self.now.weights.now couple 0 ≡ unweighed → ⊥) }
+        requires fits { length (stored_in self.now couple) ≤ length rest.old }
+        ensures { Put (stored_in self.now couple) result rest.old rest.new }
+    {
+        let weight = self.weights[couple];
+        let changes = (weight % EXTRA) as usize;
+        if self.several {
+            write_count((weight / EXTRA) as u16, rest);
+            return 2 + self.store_run(couple, changes, &mut rest[2..]);
+        }
+        self.store_run(couple, changes, rest)
+    }
+
+    // Writes the run to a couple in its stored form, and answers the bytes written.
+    fn store_run(&self, couple: usize, changes: usize, rest: &mut [u8]) -> usize
+        requires couple { couple < self.now.couples }
+        requires fits { (changes < unmarked) × (changes + 3 ≤ length rest.old) }
+        ensures { Put (stored_run (run_in self.now couple (changes + 1))) result rest.old rest.new }
+    {
+        write_count((changes + 1) as u16, rest);
+        self.write_run(couple, &mut rest[2..changes + 3]);
+        changes + 3
+    }
+
+    // Fills a buffer with the last settings of the run to a couple, from the last one back.
+    #[tactic(auto, using(crate::proofs::Chains::settings_none, crate::proofs::Chains::settings_back))]
+    pub(crate) fn write_run(&self, couple: usize, run: &mut [u8])
+        requires { couple < self.now.couples }
+        ensures { run.new ≡ run_in self.now couple (length run.old) }
+    {
+        let mut c = couple;
+        for i in (0..run.len()).rev() {
+            run[i] = (c % self.size) as u8;
+            c = usize::from(self.parents[c]);
+        }
     }
 }
 
-// Stores the run to couple c where it is chosen, and answers the bytes written.
-fn store_chosen(
-    parents: &[u16],
-    weights: &[u32],
-    chosen: &[bool],
-    size: usize,
-    c: usize,
-    several: bool,
-    rest: &mut [u8],
-) -> usize
-    requires in_tree { InTree parents.now size c }
-    requires c_in_bounds { (c < length weights.now) × (c < length chosen.now) }
-    requires extra_bound { get_or chosen.now c false ≡ true → get_or weights.now c 0 % extra < unmarked }
-    requires c_in_bounds_2 { length (piece several parents.now weights.now size chosen.now c) ≤ length rest.old }
-    ensures { Put (piece several parents.now weights.now size chosen.now c) result rest.old rest.new }
-{
-    if chosen[c] {
-        return store_by(parents, size, c, weights[c], several, rest);
-    }
-    0
-}
-
-// Stores the run to a couple, in the list with its multiple changes in front, and answers the bytes written.
-fn store_by(
-    parents: &[u16],
-    size: usize,
-    couple: usize,
-    weight: u32,
-    several: bool,
-    rest: &mut [u8],
-) -> usize
-    requires in_tree { InTree parents.now size couple × (weight % extra < unmarked) }
-    requires weight_in_bounds { length (stored_by several parents.now size couple weight) ≤ length rest.old }
-    ensures { Put (stored_by several parents.now size couple weight) result rest.old rest.new }
-{
-    let changes = large(weight % EXTRA);
-    if several {
-        write_count(large(weight / EXTRA), rest);
-        return store_run(parents, size, couple, changes, &mut rest[2..]) + 2;
-    }
-    store_run(parents, size, couple, changes, rest)
-}
-
-// Writes the run to a couple in its stored form, and answers the bytes written.
-fn store_run(parents: &[u16], size: usize, couple: usize, changes: usize, rest: &mut [u8]) -> usize
-    requires in_tree { InTree parents.now size couple }
-    requires changes_lt_unmarked { (changes < unmarked) × (changes + 3 ≤ length rest.old) }
-    ensures { Put (stored_run (settings parents.now size couple (changes + 1))) result rest.old rest.new }
-{
-    write_count(changes + 1, rest);
-    write_run(parents, size, couple, changes, &mut rest[2..]);
-    changes + 3
-}
-
-// Writes a number in two bytes, low byte first.
-fn write_count(n: usize, rest: &mut [u8])
-    requires { (n ≤ unmarked) × (2 ≤ length rest.old) }
+// Writes a count in two bytes, low byte first.
+fn write_count(n: u16, rest: &mut [u8])
+    requires { 2 ≤ length rest.old }
     ensures { Put (n % 256 ∷ n / 256 ∷ []) 2 rest.old rest.new }
 {
-    rest[0] = byte(n);
-    rest[1] = byte(n / 256);
-}
-
-// Writes the settings of the run to a couple, from the last one back to the start.
-pub(crate) fn write_run(parents: &[u16], size: usize, couple: usize, changes: usize, run: &mut [u8])
-    requires in_tree { InTree parents.now size couple }
-    requires changes_in_bounds { changes < length run.old }
-    ensures { Put (settings parents.now size couple (changes + 1)) (changes + 1) run.old run.new }
-{
-    let mut c = couple;
-    let mut left = changes + 1;
-    while 0 < left {
-        left -= 1;
-        run[left] = byte(c % size);
-        c = long(parents[c]);
-    }
+    rest[..2].copy_from_slice(&n.to_le_bytes());
 }

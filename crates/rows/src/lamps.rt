@@ -1,10 +1,25 @@
 // Files read into buffers that were lent, mostly the lamp with bytes changed: number, place and character, the five sizes, then what
 // the table and the words hold, 7 before.
-use crate::changes::{before, blanks, change};
-use crate::lines::{answer, bytes, end, number, values, word};
-use crate::samples::{both_lamp, gate_file, lamp_file, ruled_lamp};
+use crate::changes::change;
+use crate::lines::{Numbers, Told};
+use crate::samples::{GATE, LAMP};
 use specification::Contents;
-use std::io;
+use std::{fmt, io};
+
+// What reading a file answers: number, place and character, and behind a bar the sizes.
+#[derive(Clone, Copy)]
+pub(crate) struct Outcome(pub(crate) Contents);
+
+impl fmt::Display for Outcome {
+    fn fmt<W: fmt::Write>(&self, f: &mut fmt::Formatter<W>) -> fmt::Result {
+        let contents = self.0;
+        let frame = contents.frame;
+        write!(f, "{} {}", Told(contents.answer), contents.character)?;
+        write!(f, " | {} {}", frame.inputs, contents.outputs)?;
+        write!(f, " {} {}", frame.states, frame.initial)?;
+        write!(f, " {}", contents.evolutions)
+    }
+}
 
 pub(crate) fn rows(out: &impl Print) -> io::Result<()> {
     whole(out)?;
@@ -18,36 +33,30 @@ pub(crate) fn rows(out: &impl Print) -> io::Result<()> {
 
 // The lamp and the gate, and the shortest file that reads: one state, at rest at `1`.
 fn whole(out: &impl Print) -> io::Result<()> {
-    lamp(out, b"lamp file", 4, b"")?;
-    let mut table = [7u8; 49];
-    let mut words = [7u16; 4];
-    lent(out, b"gate file", &gate_file(), &mut table, &mut words)?;
-    let mut table = [7u8; 49];
-    let mut words = [7u16; 4];
-    lent(
+    read(out, "lamp file", &LAMP, &mut [7; 5], &mut [7; 3])?;
+    read(out, "gate file", &GATE, &mut [7; 49], &mut [7; 4])?;
+    read(
         out,
-        b"gate file without kind 6",
+        "gate file without kind 6",
         b"SEQ1\x04\x01\x19\x00\x04\x00\x02\x1d\x00\x09\x00\x03\x26\x00\x12\x00\x04\x38\x00\x53\x00\x04\x02\x03\x00\x00\x00\x0c\x01\x00\x08\x02\x00\x02\x00\x01\x08\x00\x02\x0b\x01\x00\x0c\x01\x02\x0b\x02\x00\x09\x02\x01\x0ac.(b+a)+d.!b!d.!b.!a!c!d.!b.!a!c.(b+!d.a)c.(b+a)+d.!b!c.(b+!d.a)c.(d+b+a)!d.c.!b.!a",
-        &mut table,
-        &mut words,
+        &mut [7; 49],
+        &mut [7; 4],
     )?;
-    let mut table = [7u8; 3];
-    let mut words = [7u16; 2];
-    lent(
+    read(
         out,
-        b"shortest file",
+        "shortest file",
         b"SEQ1\x04\x01\x19\x00\x04\x00\x02\x1d\x00\x03\x00\x03\x20\x00\x00\x00\x04\x20\x00\x01\x00\x01\x01\x01\x00\x00\x00\x011",
-        &mut table,
-        &mut words,
+        &mut [7; 3],
+        &mut [7; 2],
     )
 }
 
 // Refusal 1.
 fn contents(out: &impl Print) -> io::Result<()> {
-    lamps(
+    changed(
         out,
-        4,
-        b"
+        &LAMP,
+        "
         mark: 3'9
         count: 4=5
         kind: 10=3
@@ -65,10 +74,10 @@ fn contents(out: &impl Print) -> io::Result<()> {
 
 // Refusal 2, and the sizes beside those that it refuses.
 fn sizes(out: &impl Print) -> io::Result<()> {
-    lamps(
+    changed(
         out,
-        4,
-        b"
+        &LAMP,
+        "
         no inputs: 25=0
         8 inputs, table of 5: 25=8
         9 inputs: 25=9
@@ -86,18 +95,18 @@ fn sizes(out: &impl Print) -> io::Result<()> {
 
 // Refusal 3.
 fn room(out: &impl Print) -> io::Result<()> {
-    let mut file = lamp_file();
-    lamp_into(out, b"table of 3", &mut file, b"", 3, 2)?;
-    lamp_into(out, b"words of 1", &mut file, b"", 4, 1)?;
-    lamp_into(out, b"table of 3, words of 1", &mut file, b"", 3, 1)
+    read(out, "table of 3", &LAMP, &mut [7; 3], &mut [7; 2])?;
+    read(out, "words of 1", &LAMP, &mut [7; 4], &mut [7; 1])?;
+    let what = "table of 3, words of 1";
+    read(out, what, &LAMP, &mut [7; 3], &mut [7; 1])
 }
 
 // Refusals 4 to 7.
 fn records(out: &impl Print) -> io::Result<()> {
-    lamps(
+    changed(
         out,
-        4,
-        b"
+        &LAMP,
+        "
         output bit 1 of 1: 32=2
         output bit 8 of 1: 30=1
         source 2 of 2: 38=2
@@ -113,10 +122,10 @@ fn records(out: &impl Print) -> io::Result<()> {
 
 // Refusals 8 to 13.
 fn rules(out: &impl Print) -> io::Result<()> {
-    lamps(
+    changed(
         out,
-        4,
-        b"
+        &LAMP,
+        "
         rest !0 and a: 42'0
         rest !1 and a: 42'1
         rest 0 and !a: 43'0
@@ -130,10 +139,10 @@ fn rules(out: &impl Print) -> io::Result<()> {
 
 // Two faults in one file: each check runs over the whole of it before the next.
 fn order(out: &impl Print) -> io::Result<()> {
-    lamps(
+    changed(
         out,
-        4,
-        b"
+        &LAMP,
+        "
         1 before 2: 3'9 25=9
         2 before 4: 28=2 32=2
         4 at record 3 before 5 at record 0: 39=9 41'+
@@ -146,95 +155,44 @@ fn order(out: &impl Print) -> io::Result<()> {
         11 before 12: 32=0 42'0 44'0
         ",
     )?;
-    let mut table = [7u8; 7];
-    let mut words = [7u16; 4];
-    lent(
+    read(
         out,
-        b"12 before 13",
+        "12 before 13",
         b"SEQ1\x04\x01\x19\x00\x04\x00\x02\x1d\x00\x09\x00\x03\x26\x00\x03\x00\x04\x29\x00\x04\x00\x01\x02\x03\x00\x00\x00\x01\x01\x00\x01\x02\x00\x01\x00\x01\x010111",
-        &mut table,
-        &mut words,
+        &mut [7; 7],
+        &mut [7; 4],
     )
 }
 
-// The lamp with so many entries, 4 to 6, and bytes changed, a row to a line: its name, a colon, then the changes as `changes` reads them.
-pub(crate) fn lamps(out: &impl Print, entries: usize, rows: &[u8]) -> io::Result<()> {
-    let mut at: usize = 0;
-    while at < rows.len() {
-        let stop = at + before(&rows[at..rows.len()], b'\n');
-        row(out, entries, &rows[at..stop])?;
-        at = stop + 1;
-    }
-    Ok(())
-}
-
-// A line with no colon is no row.
-fn row(out: &impl Print, entries: usize, line: &[u8]) -> io::Result<()> {
-    let colon = before(line, b':');
-    if colon < line.len() {
-        let start = blanks(&line[0..colon]);
-        lamp(out, &line[start..colon], entries, &line[colon..line.len()])?;
-    }
-    Ok(())
-}
-
-fn lamp(out: &impl Print, what: &[u8], entries: usize, changes: &[u8]) -> io::Result<()> {
-    if entries == 4 {
-        let mut file = lamp_file();
-        return lamp_into(out, what, &mut file, changes, 5, 3);
-    }
-    if entries == 5 {
-        let mut file = ruled_lamp();
-        return lamp_into(out, what, &mut file, changes, 5, 3);
-    }
-    let mut file = both_lamp();
-    lamp_into(out, what, &mut file, changes, 5, 3)
-}
-
-// Into so many bytes for the table, at most 5, and so many words, at most 3.
-pub(crate) fn lamp_into(
+// A file with bytes changed, into more room than the lamp needs, a row to a line of the text: its name, a colon, then the changes. A line
+// with no colon is no row.
+pub(crate) fn changed<const N: usize>(
     out: &impl Print,
-    what: &[u8],
-    file: &mut [u8],
-    changes: &[u8],
-    bytes: usize,
-    count: usize,
+    file: &[u8; N],
+    rows: &str,
 ) -> io::Result<()> {
-    change(file, changes);
-    let mut table = [7u8; 5];
-    let mut words = [7u16; 3];
-    if table.len() < bytes {
-        return Ok(());
+    for row in rows.lines() {
+        if let Some((what, changes)) = row.split_once(':') {
+            let mut file = *file;
+            change(&mut file, changes);
+            read(out, what.trim_start(), &file, &mut [7; 5], &mut [7; 3])?;
+        }
     }
-    if words.len() < count {
-        return Ok(());
-    }
-    lent(out, what, file, &mut table[0..bytes], &mut words[0..count])
+    Ok(())
 }
 
-pub(crate) fn lent(
+pub(crate) fn read(
     out: &impl Print,
-    what: &[u8],
+    what: &str,
     file: &[u8],
     table: &mut [u8],
     words: &mut [u16],
 ) -> io::Result<()> {
     let contents = specification::read_here(file, table, words);
-    told(out, what, contents)?;
-    bytes(out, table)?;
-    values(out, words)?;
-    end(out)
-}
-
-// The name of a row, the answer, the character, and the sizes.
-pub(crate) fn told(out: &impl Print, what: &[u8], contents: Contents) -> io::Result<()> {
-    let frame = contents.frame;
-    answer(out, what, contents.answer)?;
-    number(out, contents.character as u64)?;
-    word(out, b"|")?;
-    number(out, frame.inputs as u64)?;
-    number(out, contents.outputs as u64)?;
-    number(out, frame.states as u64)?;
-    number(out, frame.initial as u64)?;
-    number(out, contents.evolutions as u64)
+    println!(out;
+        "{what} | {} {} {}",
+        Outcome(contents),
+        Numbers(table),
+        Numbers(words)
+    )
 }

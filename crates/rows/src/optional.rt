@@ -1,5 +1,6 @@
 // Files with a kind 5 or 6: the lamp with bytes changed.
-use crate::lamps::lamps;
+use crate::lamps::changed;
+use crate::samples::{BOTH_LAMP, RULED_LAMP};
 use std::io;
 
 pub(crate) fn rows(out: &impl Print) -> io::Result<()> {
@@ -10,10 +11,10 @@ pub(crate) fn rows(out: &impl Print) -> io::Result<()> {
 
 // The lamp with a kind 5, `a` where nothing else is said.
 fn never(out: &impl Print) -> io::Result<()> {
-    lamps(
+    changed(
         out,
-        5,
-        b"
+        &RULED_LAMP,
+        "
         kind 5:
         kind 5 that holds nowhere: 52'0
         kind 5 that holds everywhere: 52'1
@@ -35,10 +36,10 @@ fn never(out: &impl Print) -> io::Result<()> {
 
 // The lamp with a kind 6 alone, `a` where nothing else is said; state 0 rests at setting 0 alone, state 1 at setting 1.
 fn starts(out: &impl Print) -> io::Result<()> {
-    lamps(
+    changed(
         out,
-        5,
-        b"
+        &RULED_LAMP,
+        "
         kind 6 that holds everywhere: 25=6 52'1
         kind 6 !a, state 1 at rest everywhere: 23=5 25=6 26=51 28=2 45=1 48'1 50'0 51'! 52'a
         kind 6 that holds without rest: 25=6
@@ -54,10 +55,10 @@ fn starts(out: &impl Print) -> io::Result<()> {
 
 // The lamp with the kind 5 `a` and the kind 6 `!a` where nothing else is said.
 fn both(out: &impl Print) -> io::Result<()> {
-    lamps(
+    changed(
         out,
-        6,
-        b"
+        &BOTH_LAMP,
+        "
         kinds 5 and 6:
         kind 5 that takes every allowed start: 28=2 31=59 33=1 57'! 58'a 59'1
         kind 6 that does not read, behind kind 5: 59'+

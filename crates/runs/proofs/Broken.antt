@@ -5,12 +5,10 @@ use mathlib.Core.Logic.{◌↔◌, ⊎_elim, inl, inr}
 use mathlib.Core.List.{List, [], ◌∷◌, ◌++◌, append_assoc}
 use Prim.Native.Nat.{ℕ, zero, suc, ◌+◌, ◌-◌, ◌≤◌, ◌<◌}
 use native.Mathlib.Omega.{arith}
-use native.Mathlib.Nat.{add-zero, zero-add}
+use native.Mathlib.Nat.{add-zero}
 use lib.ListN.{length, take, drop, length-append, length-drop, take-append-drop}
 use lib.Seq.{take-append_seam, drop-append_seam, take-append-add, drop-append-add, length-take-le}
-use Rattle.verdict.specs.Checks.{None, Finds, at, nothing}
-use Rattle.verdict.specs.declared.Found.{Found}
-use Rattle.verdict.specs.declared.Found.TheVariants.{At, Nothing}
+use Rattle.verdict.specs.Checks.{Nowhere, Least}
 use Rattle.machine.specs.Lists.{In}
 use Rattle.machine.specs.Runs.{Machine, Run, Fault}
 use Rattle.machine.specs.Plans.{stored_run, stored, runs_in}
@@ -18,8 +16,7 @@ use Rattle.machine.proofs.Order.{below_or}
 use Rattle.machine.proofs.Stored.{runs_stored}
 use Rattle.machine.proofs.Faults.{run_faultless}
 use Rattle.runs.specs.Stored.{settings_at, StoredRuns, Broken}
-use Rattle.runs.specs.inner.Splits.{Whole, StoredAt, Next}
-use Rattle.runs.specs.inner.Splits.Next.{run, none}
+use Rattle.runs.specs.inner.Splits.{Whole, RunAt}
 use Rattle.runs.proofs.Front.{stored_front, whole_at, cut_none, front_or}
 
 module _ (m : Machine) where
@@ -81,14 +78,14 @@ module _ (m : Machine) where
   }
 
   -- the two answers of a search for the run at a byte
-  pub next_none : {bytes : List ℕ} {p : ℕ} → p < length bytes → length bytes < p + 2 + settings_at bytes p → Next m bytes p Nothing
-  next_none {bytes} {p} l c = none (none_broken (omega (arith, length-drop p bytes)) (cut_none bytes p c))
+  pub next_none : (bytes : List ℕ) {p : ℕ} → p < length bytes → length bytes < p + 2 + settings_at bytes p → Broken m (drop p bytes) 0
+  next_none bytes {p} l c = none_broken (omega (arith, length-drop p bytes)) (cut_none bytes p c)
 
-  pub next_fault : {bytes : List ℕ} {p e i : ℕ} → Whole bytes p e → Fault m (take (e - (p + 2)) (drop (p + 2) bytes)) i → Next m bytes p Nothing
-  next_fault w f = let s = whole_at w in none (subst (λ l. Broken m l 0) (sym s.is) (fault_broken _ _ f))
+  pub next_fault : {bytes : List ℕ} {p e i : ℕ} → Whole bytes p e → Fault m (take (e - (p + 2)) (drop (p + 2) bytes)) i → Broken m (drop p bytes) 0
+  next_fault w f = let s = whole_at w in subst (λ l. Broken m l 0) (sym s.is) (fault_broken _ _ f)
 
-  pub next_run : {bytes : List ℕ} {p e : ℕ} → Whole bytes p e → ((i : ℕ) → Fault m (take (e - (p + 2)) (drop (p + 2) bytes)) i → ⊥) → Next m bytes p (At e)
-  next_run w n = run ((run_faultless m _).1 n) (whole_at w)
+  pub next_run : {bytes : List ℕ} {p e : ℕ} → Whole bytes p e → Nowhere (Fault m (take (e - (p + 2)) (drop (p + 2) bytes))) → RunAt m bytes p e
+  next_run w n = record { settings = _; run = (run_faultless m _).1 n.nowhere; stored = whole_at w }
 
   -- a stored run in front of stored runs
   stored_cons : (vs : List ℕ) {after : List ℕ} → Run m vs → StoredRuns m after → StoredRuns m (stored_run vs ++ after)
@@ -103,12 +100,12 @@ module _ (m : Machine) where
   stored_none [] l = record { runs = λ vs i. absurd i; splits = refl }
   stored_none (b ∷ bytes) l = absurd (omega arith)
 
-  passed_runs : (k : ℕ) (bytes : List ℕ) → length bytes ≤ k → None (Broken m bytes) → StoredRuns m bytes
+  passed_runs : (k : ℕ) (bytes : List ℕ) → length bytes ≤ k → Nowhere (Broken m bytes) → StoredRuns m bytes
   passed_runs zero bytes l n = stored_none bytes l
   passed_runs (suc k) bytes l n = ⊎_elim
       (λ x.
       let (vs, after, e) = x in
-      let none : None (Broken m (stored_run vs ++ after)) = subst (λ a. None (Broken m a)) e n in
+      let none : Nowhere (Broken m (stored_run vs ++ after)) = subst (λ a. Nowhere (Broken m a)) e n in
       subst (StoredRuns m) (sym e)
       (stored_cons vs ((run_faultless m vs).1 (λ i f. none.nowhere 0 (fault_broken vs after f)))
       (passed_runs k after (omega (arith, ap length e ∙ length-append (stored_run vs) after)) (record { nowhere = λ q x. none.nowhere _ (broken_behind vs x) }))))
@@ -116,7 +113,7 @@ module _ (m : Machine) where
       (front_or bytes)
 
   -- the bytes that pass 19 are stored runs, and the other way round
-  pub stored_runs : (bytes : List ℕ) → None (Broken m bytes) ↔ StoredRuns m bytes
+  pub stored_runs : (bytes : List ℕ) → Nowhere (Broken m bytes) ↔ StoredRuns m bytes
   stored_runs bytes = (passed_runs (length bytes) bytes (omega arith), λ s. record { nowhere = subst (λ b. (p : ℕ) → Broken m b p → ⊥) s.splits (unbroken (runs_in bytes) s.runs) })
 
 -- A search from run to run: the bytes from byte p on are broken where the whole is.
@@ -125,34 +122,26 @@ pub record Past (m : Machine) (bytes : List ℕ) (p : ℕ) : Type 0 where
   pub ahead : (q : ℕ) → Broken m bytes q → (r : ℕ) × (q ≡ p + r) × Broken m (drop p bytes) r
   pub back : (r : ℕ) → Broken m (drop p bytes) r → Broken m bytes (p + r)
 
-pub past_start : {m : Machine} {bytes : List ℕ} → Past m bytes 0
-past_start {m} {bytes} = record { within = omega arith; ahead = λ q b. (q, sym (zero-add q), b); back = λ r b. subst (Broken m bytes) (sym (zero-add r)) b }
-
 module _ {m : Machine} {bytes : List ℕ} {p : ℕ} (x : Past m bytes p) where
-  past_run : {vs : List ℕ} {e : ℕ} → Run m vs → StoredAt bytes p vs e → Past m bytes e
-  past_run {vs} {e} r s = record {
-    within = s.within;
-    ahead = λ q b.
-        let (k, f, c) = x.ahead q b in
-        let (j, g, d) = broken_ahead m vs r (subst (λ l. Broken m l k) s.is c) in
-        (j, omega (arith, f, g, s.ends), d);
-    back = λ k b.
-        let c = x.back (length (stored_run vs) + k) (subst (λ l. Broken m l (length (stored_run vs) + k)) (sym s.is) (broken_behind m vs b)) in
-        let n : p + (length (stored_run vs) + k) ≡ e + k = omega (arith, s.ends) in
-        subst (Broken m bytes) n c;
-  }
+  -- a run stored there, or none
+  pub past_more : {e : ℕ} → RunAt m bytes p e → (p < e) × Past m bytes e
+  past_more {e} t = let s = t.stored in (
+    omega (arith, s.ends),
+    record {
+      within = s.within;
+      ahead = λ q b.
+          let (k, f, c) = x.ahead q b in
+          let (j, g, d) = broken_ahead m t.settings t.run (subst (λ l. Broken m l k) s.is c) in
+          (j, omega (arith, f, g, s.ends), d);
+      back = λ k b.
+          let c = x.back (length (stored_run t.settings) + k) (subst (λ l. Broken m l (length (stored_run t.settings) + k)) (sym s.is) (broken_behind m t.settings b)) in
+          let n : p + (length (stored_run t.settings) + k) ≡ e + k = omega (arith, s.ends) in
+          subst (Broken m bytes) n c;
+    },
+  )
 
-  pub past_more : {e : ℕ} {y : Found} → Next m bytes p y → y ≡ At e → (p < e) × Past m bytes e
-  past_more {e} t f = by (subst (Next m bytes p) f t)
-    where
-      by : Next m bytes p (At e) → (p < e) × Past m bytes e
-      by (run r s) = (omega (arith, s.ends), past_run r s)
+  pub past_found : Broken m (drop p bytes) 0 → Least (Broken m bytes) p
+  past_found b = record { here = subst (Broken m bytes) (add-zero p) (x.back 0 b); first = λ q l c. let (r, e, _) = x.ahead q c in omega arith }
 
-  pub past_found : {y : Found} → Next m bytes p y → y ≡ Nothing → Finds (Broken m bytes) (At p)
-  past_found t f = by (subst (Next m bytes p) f t)
-    where
-      by : Next m bytes p Nothing → Finds (Broken m bytes) (At p)
-      by (none b) = at (record { here = subst (Broken m bytes) (add-zero p) (x.back 0 b); first = λ q l c. let (r, e, _) = x.ahead q c in omega arith })
-
-  pub past_end : length bytes ≤ p → Finds (Broken m bytes) Nothing
-  past_end l = nothing (record { nowhere = λ q b. let (r, e, c) = x.ahead q b in omega (arith, c.inside, length-drop p bytes) })
+  pub past_end : length bytes ≤ p → Nowhere (Broken m bytes)
+  past_end l = record { nowhere = λ q b. let (r, e, c) = x.ahead q b in omega (arith, c.inside, length-drop p bytes) }

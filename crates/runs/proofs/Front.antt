@@ -8,16 +8,13 @@ use native.Mathlib.Nat.{add-zero, div-add-mod'}
 use lib.ListN.{length, get_or, take, drop, length-append, length-drop, take-append-drop}
 use lib.Seq.{take_at, drop_at, take-append_seam, drop-append_seam, length-take-le, get_or-drop, drop-drop}
 use lib.Arith.{digits_div, digits_mod}
-use Rattle.verdict.specs.declared.Found.{Found}
-use Rattle.verdict.specs.declared.Found.TheVariants.{At, Nothing}
 use Rattle.machine.specs.Lists.{In}
 use Rattle.machine.specs.Runs.{Machine, Run}
 use Rattle.machine.specs.Plans.{stored_run, stored, runs_in}
 use Rattle.machine.proofs.Order.{below_or}
 use Rattle.machine.proofs.Stored.{runs_stored}
 use Rattle.runs.specs.Stored.{settings_at, stored_end, StoredRuns}
-use Rattle.runs.specs.inner.Splits.{Whole, Counted, StoredAt}
-use Rattle.runs.specs.inner.Splits.Counted.{whole, cut}
+use Rattle.runs.specs.inner.Splits.{Whole, StoredAt}
 use Rattle.runs.proofs.Split.{begins}
 
 -- settings stored in front of other bytes are told by the bytes
@@ -53,19 +50,6 @@ whole_at {bytes} {p} {e} w =
     let ahead : p + 2 + n ≡ e = omega arith in
     let behind : take n rest ++ drop e bytes ≡ rest = ap (λ (l : List ℕ). take n rest ++ l) (ap (λ (k : ℕ). drop k bytes) (sym ahead) ∙ sym (drop-drop n (p + 2) bytes)) ∙ take-append-drop n rest in
     record { is = begins bytes p (omega arith) ∙ rw (low, high, behind); ends = omega (arith, long); within = fits }
-
--- what a search for the end of a run found
-pub counted_whole : {bytes : List ℕ} {p e : ℕ} {x : Found} → Counted bytes p x → x ≡ At e → Whole bytes p e
-counted_whole {bytes} {p} {e} t f = by (subst (Counted bytes p) f t)
-  where
-    by : Counted bytes p (At e) → Whole bytes p e
-    by (whole w) = w
-
-pub counted_cut : {bytes : List ℕ} {p : ℕ} {x : Found} → Counted bytes p x → x ≡ Nothing → length bytes < p + 2 + settings_at bytes p
-counted_cut {bytes} {p} t f = by (subst (Counted bytes p) f t)
-  where
-    by : Counted bytes p Nothing → length bytes < p + 2 + settings_at bytes p
-    by (cut l) = l
 
 -- bytes that end before the run that is counted there store no settings
 pub cut_none : (bytes : List ℕ) (p : ℕ) → length bytes < p + 2 + settings_at bytes p → (vs after : List ℕ) → drop p bytes ≡ stored_run vs ++ after → ⊥

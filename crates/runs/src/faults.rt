@@ -1,73 +1,56 @@
 // Whether a list of settings is a run of a table, and where its first fault is: refusal 17.
-ghost use Rattle.std.specs.Prelude.{◌≡◌, List, ℕ, ◌<◌, ◌^◌};
+ghost use Rattle.std.specs.Prelude.{◌≡◌, ◌<◌, ◌^◌};
 ghost use Rattle.verdict.specs.Checks.{Decides, Finds, Passed, Judged};
-ghost use Rattle.machine.specs.Runs.{machine_of, machine_by, Changes, Fault};
-ghost use Rattle.tables.specs.Tables.{Tabled};
+ghost use Rattle.verdict.specs.Refusals.{verdict_of};
+ghost use Rattle.machine.specs.Runs.{Changes, Fault};
+ghost use Rattle.tables.specs.Tables.{machine_in};
 ghost use Rattle.runs.specs.Faults.{fault_checks};
 
-use crate::stored::setting;
-use machine::{Frame, settings, usable};
-use tables::{is_start, tabled};
-use verdict::{Answer, Found};
+use tables::Job;
+use tables::jobs::SizedJob;
+use verdict::Refusal;
 
-// Refusal 17 of a list of settings, handed in with a table to which refusals 2 and 3 do not apply; with any other there is none. Several
-// inputs may change at once, or one at a time.
-pub fn check_run(frame: Frame, several: bool, table: &[u8], run: &[u8]) -> Answer
-    ensures { Judged (fault_checks (machine_by several frame table.now) run.now) Passed result }
+// Refusal 17 of a list of settings, handed in with a table to which refusals 2 and 3 do not apply; with any other there is none.
+pub fn check_run(job: Job, run: &[u8]) -> Result<(), Refusal>
+    ensures { Judged (fault_checks (machine_in job.entry) run.now) Passed (verdict_of result) }
 {
-    if !tabled(frame, table) {
-        return Answer {
-            number: 0,
-            place: 0,
-        };
-    }
-    if let Found::At(i) = first_fault(frame, several, table, run) {
-        return Answer {
-            number: 17,
-            place: i,
-        };
-    }
-    Answer {
-        number: 0,
-        place: 0,
+    let Ok(sized) = job.check_sizes() else {
+        return Ok(());
+    };
+    match first_fault(sized, run) {
+        Some(index) => Err(Refusal::NoRun(index)),
+        None => Ok(()),
     }
 }
 
 // The first index at which a list of settings is no run, 0 if it is empty.
-pub(crate) fn first_fault(frame: Frame, several: bool, table: &[u8], run: &[u8]) -> Found
-    requires { Tabled (machine_of frame table.now) }
-    ensures { Finds (Fault (machine_by several frame table.now) run.now) result }
+pub(crate) fn first_fault(sized: SizedJob, run: &[u8]) -> Option<usize>
+    ensures { Finds (Fault (machine_in sized.entry.job) run.now) result }
 {
-    if run.len() == 0 {
-        return Found::At(0);
+    if run.is_empty() || !sized.is_start(usize::from(run[0])) {
+        return Some(0);
     }
-    if !is_start(frame, table, setting(run, 0)) {
-        return Found::At(0);
-    }
-    let m = settings(frame.inputs);
     for i in 1..run.len() {
-        if !may_change(frame, several, m, setting(run, i - 1), setting(run, i)) {
-            return Found::At(i);
+        if !may_change(sized, usize::from(run[i - 1]), usize::from(run[i])) {
+            return Some(i);
         }
     }
-    Found::Nothing
+    None
 }
 
-// Whether a run may change from v, one of the m settings, to w: w is one too and not ruled out, and exactly one input differs, or at
-// least one where several may change at once.
-fn may_change(frame: Frame, several: bool, m: usize, v: usize, w: usize) -> bool
-    requires { (m ≡ 2 ^ frame.inputs) × (v < m) }
-    ensures { (table : List ℕ) → Decides (Changes (machine_by several frame table) v w) result }
+// Whether a run may change from one setting to another: to one that is not ruled out, and exactly one input differs, or at least one
+// where several may change at once.
+fn may_change(sized: SizedJob, from: usize, to: usize) -> bool
+    requires { from < 2 ^ sized.job.frame.inputs }
+    ensures { Decides (Changes (machine_in sized.entry.job) from to) result }
 {
-    if m <= w {
+    if sized.settings() <= to || !sized.job.frame.usable(to) {
         return false;
     }
-    if !usable(frame, w) {
-        return false;
+    let altered = (from ^ to).count_ones();
+    if sized.job.several {
+        altered > 0
+    } else {
+        altered == 1
     }
-    let altered = usize::count_ones(v ^ w);
-    if several {
-        return 0 < altered;
-    }
-    altered == 1
 }

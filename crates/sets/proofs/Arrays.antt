@@ -33,12 +33,12 @@ pub array_words : {n : ℕ} {xs : List ℕ} {vs : List Val} → Is (Array (UInt 
 array_words {n} {xs} p = record { count = p.1.0.1; small = λ i l. each_fits xs p.0 p.1.1 i }
 
 -- a word with more bits set
-pub words_set : {n : ℕ} {s : List ℕ} → Words n s → (j x : ℕ) → j < n → x < 2 ^ 64 → Words n (set s j (bit_or x (get_or s j 0)))
+pub words_set : {n : ℕ} {s : List ℕ} → Words n s → (j x : ℕ) → j < n → x < 2 ^ 64 → Words n (set s j (bit_or (get_or s j 0) x))
 words_set {n} {s} a j x l h = record {
   count = length-set s j _ ∙ a.count;
   small = λ i k. ⊎_elim
-      (λ e. rw (e, get_or-set_same s j (bit_or x (get_or s j 0)) 0 (omega (arith, a.count))) (or_lt 64 x (get_or s j 0) h (a.small j l)))
-      (λ (e : i ≡ j → ⊥). rw (get_or-set_other s j i (bit_or x (get_or s j 0)) 0 e) (a.small i k))
+      (λ e. rw (e, get_or-set_same s j (bit_or (get_or s j 0) x) 0 (omega (arith, a.count))) (or_lt 64 (get_or s j 0) x (a.small j l) h))
+      (λ (e : i ≡ j → ⊥). rw (get_or-set_other s j i (bit_or (get_or s j 0) x) 0 e) (a.small i k))
       (decides_or (decides_equal i j));
 }
 

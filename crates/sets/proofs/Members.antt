@@ -40,10 +40,10 @@ bit_pairs P a b c d zero (suc (suc y)) h k = absurd (omega arith)
 bit_pairs P a b c d (suc zero) (suc (suc y)) h k = absurd (omega arith)
 bit_pairs P a b c d (suc (suc x)) y h k = absurd (omega arith)
 
-or_table : (x y : ℕ) → x < 2 → y < 2 → eqb (bit_or x y) 1 ≡ eqb x 1 || eqb y 1
-or_table = bit_pairs (λ (x y : ℕ). eqb (bit_or x y) 1 ≡ eqb x 1 || eqb y 1) refl refl refl refl
+or_table : (x y : ℕ) → x < 2 → y < 2 → eqb (bit_or x y) 1 ≡ eqb y 1 || eqb x 1
+or_table = bit_pairs (λ (x y : ℕ). eqb (bit_or x y) 1 ≡ eqb y 1 || eqb x 1) refl refl refl refl
 
-or_bit : (a b i : ℕ) → eqb (bit_or a b / 2 ^ i % 2) 1 ≡ eqb (a / 2 ^ i % 2) 1 || eqb (b / 2 ^ i % 2) 1
+or_bit : (a b i : ℕ) → eqb (bit_or a b / 2 ^ i % 2) 1 ≡ eqb (b / 2 ^ i % 2) 1 || eqb (a / 2 ^ i % 2) 1
 or_bit a b i =
     let x = a / 2 ^ i in
     let y = b / 2 ^ i in
@@ -69,11 +69,11 @@ module _ (s : List ℕ) (u : ℕ) (h : u < 64 * length s) where
   bit : 1 * 2 ^ (u % 64) % 2 ^ 64 ≡ 2 ^ (u % 64)
   bit = rw one-mul (mod-eq_of_lt (pow-lt {i = u % 64} {j = 64} (omega arith)))
 
-  pub member_set : (v : ℕ) → member (set s (u / 64) (bit_or (1 * 2 ^ (u % 64) % 2 ^ 64) (get_or s (u / 64) 0))) v ≡ eqb v u || member s v
+  pub member_set : (v : ℕ) → member (set s (u / 64) (bit_or (get_or s (u / 64) 0) (1 * 2 ^ (u % 64) % 2 ^ 64))) v ≡ eqb v u || member s v
   member_set v = ⊎_elim here other (decides_or (decides_equal (v / 64) (u / 64)))
     where
       word : ℕ
-      word = bit_or (1 * 2 ^ (u % 64) % 2 ^ 64) (get_or s (u / 64) 0)
+      word = bit_or (get_or s (u / 64) 0) (1 * 2 ^ (u % 64) % 2 ^ 64)
 
       places : v / 64 ≡ u / 64 → eqb (v % 64) (u % 64) ≡ eqb v u
       places e = ⊎_elim

@@ -7,31 +7,24 @@ ghost use Rattle.sets.specs.Sets.{words, most_members, member, Words};
 // Words of a set.
 pub const WORDS: usize = 4;
 
-// Bits of a word, and of a set.
+// Bits of a word.
 const BITS: usize = 64;
-
-const MEMBERS: usize = BITS * WORDS;
 
 // Whether a setting is a member.
 pub fn has(set: [u64; WORDS], setting: usize) -> bool
     ensures { result ≡ member set setting }
 {
-    if MEMBERS <= setting {
-        return false;
-    }
-    (set[setting / BITS] >> (setting % BITS)) % 2 == 1
+    set.get(setting / BITS)
+        .is_some_and(|word| (word >> (setting % BITS)) % 2 == 1)
 }
 
 // The set with one setting more, if there is a bit for it.
-pub fn with(set: [u64; WORDS], setting: usize) -> [u64; WORDS]
+pub fn with(mut set: [u64; WORDS], setting: usize) -> [u64; WORDS]
     ensures array { Words words result }
     ensures members { (v : ℕ) → v < most_members → member result v ≡ eqb v setting || member set v }
 {
-    if MEMBERS <= setting {
-        return set;
+    if setting < BITS * WORDS {
+        set[setting / BITS] |= 1 << (setting % BITS);
     }
-    let mut next = set;
-    let bit: u64 = 1 << (setting % BITS);
-    next[setting / BITS] = bit | next[setting / BITS];
-    next
+    set
 }

@@ -9,7 +9,7 @@ use native.Mathlib.Nat.{mod-lt, div-lt_iff_lt-mul}
 use native.Mathlib.Omega.{arith}
 use lib.Pow.{pow_pos}
 use borrow.Author.Tests.{lt-ltb}
-use Rattle.verdict.specs.Checks.{None, Unless}
+use Rattle.verdict.specs.Checks.{Nowhere, Unless}
 use Rattle.machine.specs.Couples.{differing}
 use Rattle.machine.specs.Moves.{table_moves, Reached, start, step, Unreached}
 use Rattle.machine.specs.Runs.{Machine, usable, machine_by, size, couples, couple, move, Sound, Starts, Visitor, Marked}
@@ -34,11 +34,11 @@ Free m = (v w : ℕ) → v < size m → w < size m → (v ≡ w → ⊥) → m.m
 
 -- each state is reached, by any settings
 abbrev pub AllReached : Machine → Type 0
-AllReached m = None (Unreached (table_moves m.table (size m)) m.states (size m) m.initial)
+AllReached m = Nowhere (Unreached (table_moves m.table (size m)) m.states (size m) m.initial)
 
 -- there is a start
 abbrev pub SomeStart : Machine → Type 0
-SomeStart m = None (Unless ((v : ℕ) × Starts m v))
+SomeStart m = Nowhere (Unless ((v : ℕ) × Starts m v))
 
 -- a run ends with state s at rest
 record Resting (m : Machine) (s : ℕ) : Type 0 where

@@ -1,4 +1,4 @@
--- What an answer tells of the bytes that were moved: no more than the buffer has.
+-- What is moved into a buffer, and what is printed, has no more bytes than the buffer.
 use mathlib.Core.Path.{◌≡◌, ap, subst, ◌∙◌}
 use mathlib.Core.List.{List}
 use Prim.Native.Nat.{ℕ, ◌-◌, ◌≤◌}

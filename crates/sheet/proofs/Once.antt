@@ -9,7 +9,8 @@ use Rattle.verdict.specs.declared.Answer.{Answer}
 use Rattle.verdict.proofs.Order.{judged_unique}
 use Rattle.show.specs.Sheet.{refusal_text}
 use Rattle.show.specs.Written.{over, written}
-use Rattle.show.specs.declared.Written.TheVariants.{All}
+use Rattle.std.specs.Prelude.{Result, Ok}
+use Rattle.show.specs.declared.Short.{Short}
 use Rattle.machine.specs.Runs.{machine_by}
 use Rattle.machine.specs.declared.Frame.{Frame}
 use Rattle.specification.specs.Records.{sizes_of}
@@ -34,5 +35,5 @@ sheet_once {file} (read v i t x) (read {text = text} w j u y) =
 pub only : {file : List ℕ} {n k : ℕ} {before a b : List ℕ} → Prints (SheetOf file) n before a → Prints (SheetOf file) k before b → (n ≡ k) × (a ≡ b)
 only {n = n} {k = k} {before} x y =
     let e = sheet_once x.is y.is in
-    let f : All n ≡ All k = x.writes.answered ∙ ap (λ (t : List ℕ). written t before) e ∙ sym y.writes.answered in
+    let f : ◌≡◌ {A = Result ℕ Short} (Ok n) (Ok k) = x.writes.answered ∙ ap (λ (t : List ℕ). written t before) e ∙ sym y.writes.answered in
     (cc, x.writes.bytes ∙ ap (λ (t : List ℕ). over t before) e ∙ sym y.writes.bytes)

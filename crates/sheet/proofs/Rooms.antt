@@ -1,6 +1,6 @@
 -- Every text that is printed has room: ranks are below the number of couples, the runs of plan and list have no more settings than there
 -- are couples and fewer multiple changes, each setting is a byte, and numbers are words of the machine.
-use mathlib.Core.Path.{◌≡◌, refl, sym, subst, ◌∙◌}
+use mathlib.Core.Path.{refl, sym, subst, ◌∙◌}
 use mathlib.Core.Logic.{inl, inr, ⊎_elim}
 use mathlib.Core.List.{List, [], ◌∷◌, ◌++◌}
 use Prim.Native.Nat.{ℕ, ◌^◌, ◌≤◌, ◌<◌}
@@ -24,12 +24,11 @@ use Rattle.plan.specs.Planning.{PlanBytes}
 use Rattle.plan.specs.Multi.{ListBytes}
 use Rattle.show.specs.Sheet.{sheet_text, refusal_text}
 use Rattle.show.specs.Written.{Writes}
-use Rattle.show.specs.declared.Written.{Written}
-use Rattle.show.specs.declared.Written.TheVariants.{All}
+use Rattle.std.specs.Prelude.{Result, IsOk}
+use Rattle.show.specs.declared.Short.{Short}
 use Rattle.show.proofs.Over.{written_fits}
 use Rattle.show.proofs.Room.{Bytes, sheet_room, ranks_low, refusal_room}
 use Rattle.sheet.specs.Printed.{plan_room, list_room, text_room}
-use Rattle.sheet.specs.inner.Steps.{Whole}
 
 -- bytes of settings, and of stored runs
 bytes_of : (vs : List ℕ) → ((w : ℕ) → In w vs → w < 256) → Bytes vs
@@ -93,8 +92,5 @@ pub refusal_fits : (number place character : ℕ) → number < 2 ^ 64 → place 
 refusal_fits number place character n p c = omega (arith, refusal_room number place character (omega arith) (omega arith) (omega arith))
 
 -- a text that has room is written whole
-pub written_whole : {text before after : List ℕ} {answer : Written} → Writes text answer before after → length text ≤ length before → Whole answer
-written_whole {text} {before} w h = subst Whole (sym (w.answered ∙ written_fits text before h)) tt
-
-pub writes_all : {text before after : List ℕ} {answer : Written} {n : ℕ} → Writes text answer before after → answer ≡ All n → Writes text (All n) before after
-writes_all {text} {before} {after} w e = subst (λ a. Writes text a before after) e w
+pub written_whole : {text before after : List ℕ} {answer : Result ℕ Short} → Writes text answer before after → length text ≤ length before → IsOk answer
+written_whole {text} {before} w h = subst IsOk (sym (w.answered ∙ written_fits text before h)) refl

@@ -1,6 +1,6 @@
 -- The text that the program prints for a file (document 01, "Examples on both sides"; document 02, tickets 4 and 6). Assumes nothing: these
 -- are definitions.
-use Rattle.std.specs.Prelude.{◌≡◌, true, List, ℕ, ◌+◌, ◌*◌, ◌≤◌, length}
+use Rattle.std.specs.Prelude.{◌≡◌, true, List, ℕ, ◌+◌, ◌*◌, ◌≤◌, length, Ok}
 use Rattle.verdict.specs.Checks.{Passed, Judged}
 use Rattle.verdict.specs.declared.Answer.{Answer}
 use Rattle.machine.specs.Limits.{most_states, most_couples}
@@ -15,7 +15,6 @@ use Rattle.plan.specs.Planning.{PlanBytes, ShortOf}
 use Rattle.plan.specs.Multi.{ListBytes}
 use Rattle.show.specs.Sheet.{sheet_text, refusal_text}
 use Rattle.show.specs.Written.{Writes}
-use Rattle.show.specs.declared.Written.TheVariants.{All}
 
 -- the program's plan buffer has 65,536 bytes
 abbrev pub plan_room : ℕ
@@ -55,4 +54,4 @@ text_room = 46 + 17 * most_couples + 5 * plan_room + 4 * list_room
 pub record Prints (Is : List ℕ → Type 0) (n : ℕ) (before after : List ℕ) : Type 0 where
   pub text : List ℕ
   pub is : Is text
-  pub writes : Writes text (All n) before after
+  pub writes : Writes text (Ok n) before after

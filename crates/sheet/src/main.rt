@@ -1,17 +1,16 @@
 // Prints the sheet of the specification file on standard input, or the line of its refusal.
 #![tactic(auto)]
 
-ghost use Rattle.std.specs.Prelude.{◌≡◌, true, ◌≤◌, length};
+ghost use Rattle.std.specs.Prelude.{true, ◌≤◌, length};
 ghost use Rattle.machine.specs.Runs.{machine_by};
-ghost use Rattle.show.specs.declared.Written.TheVariants.{All};
 ghost use Rattle.show.specs.Sheet.{refusal_text};
 ghost use Rattle.show.specs.Written.{Writes};
 ghost use Rattle.sheet.specs.Printed.{text_room, SheetOf, PlanText, Prints};
-ghost use Rattle.sheet.specs.inner.Steps.{Within, Whole, Ready};
+ghost use Rattle.sheet.specs.inner.Steps.{Within, Ready};
 
 use machine::{COUPLES, Frame, STATES};
 use plan::{multi_list, plan};
-use show::{Written, refusal, sheet};
+use show::{refusal, sheet};
 use specification::read_here;
 use std::io;
 use std::io::Read;
@@ -81,43 +80,31 @@ fn write_plan(frame: Frame, table: &[u8], text: &mut [u8]) -> usize
 {
     let mut ranks = [0u16; COUPLES];
     let mut runs = [0u8; PLAN];
-    let planned = plan(frame, table, &mut ranks, &mut runs);
-    if planned.number != 0 {
-        return write_refusal(planned, 0, text);
-    }
+    let planned = match plan(frame, table, &mut ranks, &mut runs) {
+        Ok(planned) => planned,
+        Err(refusal) => return write_refusal(refusal.into(), 0, text),
+    };
     let mut list = [0u8; LIST];
-    let listed = multi_list(frame, table, &mut ranks, &mut list);
-    if listed.number != 0 {
-        return write_refusal(listed, 0, text);
-    }
+    let listed = match multi_list(frame, table, &mut ranks, &mut list) {
+        Ok(listed) => listed,
+        Err(refusal) => return write_refusal(refusal.into(), 0, text),
+    };
     let couples = table.len();
-    let end = planned.place;
-    let list_end = listed.place;
-    whole(sheet(
+    sheet(
         frame.inputs,
         frame.states,
         &ranks[0..couples],
-        &runs[0..end],
-        &list[0..list_end],
+        &runs[0..planned],
+        &list[0..listed],
         text,
-    ))
+    )
+    .unwrap()
 }
 
 // Writes the line of a refusal, and answers how many bytes it has.
 fn write_refusal(answer: Answer, character: usize, text: &mut [u8]) -> usize
     requires { text_room ≤ length text.old }
-    ensures { Writes (refusal_text answer.number answer.place character) (All result) text.old text.new }
+    ensures { Writes (refusal_text answer.number answer.place character) (Ok result) text.old text.new }
 {
-    whole(refusal(answer.number, answer.place, character, text))
-}
-
-// How many bytes a text has that was written whole.
-fn whole(written: Written) -> usize
-    requires { Whole written }
-    ensures { written ≡ All result }
-{
-    let Written::All(end) = written else {
-        return 0;
-    };
-    end
+    refusal(answer.number, answer.place, character, text).unwrap()
 }

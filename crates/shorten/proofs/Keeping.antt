@@ -9,41 +9,52 @@ use native.Mathlib.Omega.{arith}
 use lib.ListN.{length, take, drop, length-append, length-drop, drop_of_length-le}
 use lib.Seq.{take_at, drop_at, drop-drop, paste}
 use Rattle.verdict.proofs.Tests.{true≢false}
-use Rattle.machine.specs.Runs.{Machine, couples, Sound, visits}
+use Rattle.machine.specs.Runs.{Machine, visits}
 use Rattle.machine.specs.Plans.{stored_run, stored, runs_in}
 use Rattle.machine.proofs.Stored.{stored_more}
+use Rattle.tables.specs.Tables.{machine_in}
+use Rattle.tables.specs.declared.jobs.SoundJob.{SoundJob}
 use Rattle.runs.specs.Stored.{StoredRuns}
 use Rattle.runs.proofs.Front.{First}
 use Rattle.shorten.specs.Shortening.{Shortens}
 use Rattle.shorten.specs.Shortening.Shortens.{ends, out as goes-out, stays as goes_on}
-use Rattle.shorten.specs.inner.Passing.{noted, Reach, Few, Tells, Stay, Turn, Kept}
-use Rattle.shorten.specs.inner.Passing.Stay.{goes}
-use Rattle.shorten.specs.inner.Passing.Turn.{out, stays}
-use Rattle.shorten.proofs.Marks.{length_noted, few_noted, tells_out, tells_stays, first_told}
+use Rattle.shorten.specs.inner.Passing.{noted, Reach, Few, Tells, Kept}
+use Rattle.shorten.specs.inner.Marked.{Stay, Turn}
+use Rattle.shorten.specs.inner.Marked.Stay.{goes}
+use Rattle.shorten.specs.inner.Marked.Turn.{out, stays}
+use Rattle.shorten.specs.declared.Passes.{Passes}
+use Rattle.shorten.proofs.Marks.{few_noted, tells_out, tells_stays, first_told}
 
 -- a turn, by what is said of whether the run stays
-pub turn_by : {m : Machine} {vs : List ℕ} {p e q : ℕ} {plan marks : List ℕ} {b : Bool} {marks' : List ℕ} → Stay m vs e (length plan) marks b marks'
-    → (b ≡ false → Turn m vs p e q plan marks 0 plan marks') × (b ≡ true → Turn m vs p e q plan marks (e - p) (paste plan q (drop p plan) (e - p)) marks')
+pub turn_by : {m : Machine} {vs : List ℕ} {p e q : ℕ} {plan : List ℕ} {k k' : Passes} {b : Bool} → Stay m vs e (length plan) k b k'
+    → (b ≡ false → Turn m vs p e q plan k 0 plan k') × (b ≡ true → Turn m vs p e q plan k (e - p) (paste plan q (drop p plan) (e - p)) k')
 turn_by (goes a) = (λ _. out a, λ f. absurd (true≢false (sym f)))
 turn_by (Stay.stays n) = (λ f. absurd (true≢false f), λ _. stays n)
 
-pub record Keeping (m : Machine) (plan₀ : List ℕ) (n p q : ℕ) (plan marks : List ℕ) : Type 0 where
+-- before byte p, the runs kept ending at byte q
+pub record Keeping (k₀ : Passes) (plan₀ : List ℕ) (k : Passes) (plan : List ℕ) (p q : ℕ) : Type 0 where
+  pub sound : k.sound ≡ k₀.sound
   pub kept : List (List ℕ)
   pub within : p ≤ length plan₀
   pub low : q ≤ p
   pub count : q ≡ length (stored kept)
   pub is : plan ≡ stored kept ++ drop q plan₀
-  pub as_long : length marks ≡ n
-  pub room : couples m ≤ n
-  pub few : Few (length plan₀) marks
-  pub ahead : StoredRuns m (drop p plan₀)
-  pub tells : Tells m p kept (runs_in (drop p plan₀)) marks
-  pub goes : (left : List (List ℕ)) → Shortens m kept (runs_in (drop p plan₀)) left → Shortens m [] (runs_in plan₀) (kept ++ left)
+  pub few : Few (length plan₀) k.marks.now
+  pub ahead : StoredRuns (machine_in k.sound.job) (drop p plan₀)
+  pub tells : Tells (machine_in k.sound.job) p kept (runs_in (drop p plan₀)) k.marks.now
+  pub goes : (left : List (List ℕ)) → Shortens (machine_in k.sound.job) kept (runs_in (drop p plan₀)) left → Shortens (machine_in k.sound.job) [] (runs_in plan₀) (kept ++ left)
 
-pub keeping_start : {m : Machine} {plan marks : List ℕ} → couples m ≤ length marks → StoredRuns m plan → Tells m 0 [] (runs_in plan) marks → Few (length plan) marks → Keeping m plan (length marks) 0 0 plan marks
-keeping_start room s t few = record { kept = []; within = omega arith; low = le_refl 0; count = refl; is = refl; as_long = refl; room = room; few = few; ahead = s; tells = t; goes = λ left x. x }
+pub keeping_start : {k : Passes} {plan : List ℕ} → StoredRuns (machine_in k.sound.job) plan
+    → Tells (machine_in k.sound.job) 0 [] (runs_in plan) k.marks.now → Few (length plan) k.marks.now → Keeping k plan k plan 0 0
+keeping_start s t few = record { sound = refl; kept = []; within = omega arith; low = le_refl 0; count = refl; is = refl; few = few; ahead = s; tells = t; goes = λ left x. x }
 
-module _ {m : Machine} {plan₀ : List ℕ} {n p q : ℕ} {plan marks : List ℕ} (k : Keeping m plan₀ n p q plan marks) where
+module _ {k₀ : Passes} {plan₀ : List ℕ} {at : Passes} {plan : List ℕ} {p q : ℕ} (k : Keeping k₀ plan₀ at plan p q) where
+  abbrev m : Machine
+  m = machine_in at.sound.job
+
+  abbrev marks : List ℕ
+  marks = at.marks.now
+
   pub same_length : length plan ≡ length plan₀
   same_length = omega (arith, ap length k.is ∙ length-append (stored k.kept) (drop q plan₀), length-drop q plan₀, k.count, k.low, k.within)
 
@@ -83,41 +94,39 @@ module _ {m : Machine} {plan₀ : List ℕ} {n p q : ℕ} {plan marks : List ℕ
     bytes = ap (take (e - p)) f.at.is ∙ take_at (stored_run vs) (drop e plan) (e - p) (omega (arith, f.at.ends))
 
     -- its turn: it goes out, or stays
-    pub keeping_turn : Sound m → {r : ℕ} {plan' marks' : List ℕ} → Turn m vs p e q plan marks r plan' marks' → Keeping m plan₀ n e (q + r) plan' marks'
-    keeping_turn ok (out a) = record {
+    pub keeping_turn : {r : ℕ} {plan' : List ℕ} {next : Passes} → Turn m vs p e q plan at r plan' next → Keeping k₀ plan₀ next plan' e (q + r)
+    keeping_turn (out a) = record {
+      sound = k.sound;
       kept = k.kept;
       within = lent.at.within;
       low = omega (arith, k.low, f.at.ends);
       count = omega (arith, k.count);
       is = k.is ∙ ap (λ (j : ℕ). stored k.kept ++ drop j plan₀) (sym (add-zero q));
-      as_long = k.as_long;
-      room = k.room;
       few = k.few;
       ahead = lent.behind;
       tells = subst (λ j. Tells m j k.kept (runs_in (drop e plan₀)) marks) (sym f.at.ends) (tells_out m vs told);
-      goes = λ left x. goes_with (goes-out ((first_told m vs told ok f.run).0 (subst (λ j. Reach (visits m vs) j marks) f.at.ends a)) x);
+      goes = λ left x. goes_with (goes-out ((first_told m vs told at.sound.checked.sound f.run).0 (subst (λ j. Reach (visits m vs) j marks) f.at.ends a)) x);
     }
-    keeping_turn ok (stays more) = record {
+    keeping_turn (stays more) = record {
+      sound = k.sound;
       kept = k.kept ++ (vs ∷ []);
       within = lent.at.within;
       low = omega (arith, k.low, f.at.ends);
       count = omega (arith, k.count, f.at.ends, ap length (stored_more k.kept vs) ∙ length-append (stored k.kept) (stored_run vs));
       is = ap₂ (λ (x y : List ℕ). x ++ y) (ap₂ (λ (x y : List ℕ). x ++ y) front bytes ∙ sym (stored_more k.kept vs)) (behind (q + (e - p)) (omega arith));
-      as_long = length_noted (visits m vs) (length plan) marks ∙ k.as_long;
-      room = k.room;
       few = few_noted (visits m vs) k.few (omega (arith, same_length));
       ahead = lent.behind;
-      tells = subst (λ j. Tells m j (k.kept ++ (vs ∷ [])) (runs_in (drop e plan₀)) (noted (visits m vs) (length plan) marks)) (sym f.at.ends) (tells_stays m vs told (length plan) (rw k.as_long k.room) fits);
+      tells = subst (λ j. Tells m j (k.kept ++ (vs ∷ [])) (runs_in (drop e plan₀)) (noted (visits m vs) (length plan) marks)) (sym f.at.ends) (tells_stays m vs told (length plan) fits);
       goes = λ left x. subst (Shortens m [] (runs_in plan₀)) (sym (append_assoc k.kept (vs ∷ []) left))
-          (goes_with (goes_on (λ s. more (subst (λ j. Reach (visits m vs) j marks) (sym f.at.ends) ((first_told m vs told ok f.run).1 s))) x));
+          (goes_with (goes_on (λ s. more (subst (λ j. Reach (visits m vs) j marks) (sym f.at.ends) ((first_told m vs told at.sound.checked.sound f.run).1 s))) x));
     }
       where
         fits : p + length (stored (vs ∷ runs_in (drop e plan₀))) ≤ length plan
         fits = omega (arith, length-append (stored_run vs) (stored (runs_in (drop e plan₀))), ap length lent.behind.splits, length-drop e plan₀, f.at.ends, f.at.within, same_length)
 
   -- all bytes are gone through
-  pub keeping_end : length plan ≤ p → StoredRuns m plan₀ → Kept m plan₀ q plan
-  keeping_end l s = record {
+  pub keeping_end : length plan ≤ p → StoredRuns (machine_in k₀.sound.job) plan₀ → Kept (machine_in k₀.sound.job) plan₀ q plan
+  keeping_end l s = subst (λ (j : SoundJob). Kept (machine_in j.job) plan₀ q plan) k.sound (record {
     bytes = stored k.kept;
     shortened = record {
       runs = runs_in plan₀;
@@ -128,7 +137,7 @@ module _ {m : Machine} {plan₀ : List ℕ} {n p q : ℕ} {plan marks : List ℕ
     };
     count = k.count;
     front = record { is = k.is ∙ ap (λ (j : ℕ). stored k.kept ++ drop j plan₀) k.count };
-  }
+  })
     where
       none : drop p plan₀ ≡ []
       none = drop_of_length-le plan₀ {i = p} (omega (arith, same_length))

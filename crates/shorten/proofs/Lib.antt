@@ -1,7 +1,6 @@
 pub mod Pass
 pub mod Marks
 pub mod Walking
-pub mod Moving
 pub mod Marking
 pub mod Keeping
 pub mod Outcomes

@@ -1,45 +1,54 @@
 -- The first pass over the bytes: marking the runs ahead ends as marking all of them does, and then the marks tell.
-use mathlib.Core.Path.{◌≡◌, refl, sym, ap, ap₂, subst, ◌∙◌}
+use mathlib.Core.Path.{◌≡◌, refl, sym, ap, subst, ◌∙◌}
 use mathlib.Core.List.{List, []}
 use Prim.Native.Nat.{ℕ, ◌≤◌}
 use native.Mathlib.Omega.{arith}
-use lib.ListN.{length, get_or, drop}
+use lib.ListN.{length, drop}
 use lib.Seq.{drop-length}
-use Rattle.machine.specs.Runs.{Machine, couples, visits_from, visits}
+use Rattle.machine.specs.Runs.{visits_from, visits}
 use Rattle.machine.specs.Plans.{runs_in}
+use Rattle.tables.specs.Tables.{machine_in}
+use Rattle.tables.specs.declared.jobs.SoundJob.{SoundJob}
 use Rattle.runs.specs.Stored.{StoredRuns}
 use Rattle.runs.proofs.Front.{First}
-use Rattle.shorten.specs.inner.Passing.{noted, Few, Tells}
-use Rattle.shorten.proofs.Marks.{length_noted, few_noted, noted_all, all_tells}
+use Rattle.shorten.specs.inner.Passing.{noted, Few, Fresh, Tells}
+use Rattle.shorten.specs.inner.Marked.{marked}
+use Rattle.shorten.specs.declared.Passes.{Passes}
+use Rattle.shorten.proofs.Marks.{few_noted, noted_all, all_tells}
 use Rattle.shorten.proofs.Walking.{noted_run_lem}
 
-pub record MarkingAll (m : Machine) (plan : List ℕ) (p : ℕ) (marks₀ marks : List ℕ) : Type 0 where
+-- before byte p, in a plan of stored runs
+pub record MarkingAll (plan : List ℕ) (k₀ k : Passes) (p : ℕ) : Type 0 where
+  pub sound : k.sound ≡ k₀.sound
   pub within : p ≤ length plan
-  pub ahead : StoredRuns m (drop p plan)
-  pub as_long : length marks ≡ length marks₀
-  pub few : Few (length plan) marks
-  pub same : noted_all m p (runs_in (drop p plan)) marks ≡ noted_all m 0 (runs_in plan) marks₀
+  pub ahead : StoredRuns (machine_in k.sound.job) (drop p plan)
+  pub few : Few (length plan) k.marks.now
+  pub same : noted_all (machine_in k.sound.job) p (runs_in (drop p plan)) k.marks.now ≡ noted_all (machine_in k.sound.job) 0 (runs_in plan) k₀.marks.now
 
-pub all_start : {m : Machine} {plan marks : List ℕ} → StoredRuns m plan → ((c : ℕ) → get_or marks c 0 ≡ 0) → MarkingAll m plan 0 marks marks
-all_start s none = record { within = omega arith; ahead = s; as_long = refl; few = record { each = λ c. omega (arith, none c) }; same = refl }
+pub all_start : {plan : List ℕ} {k : Passes} → StoredRuns (machine_in k.sound.job) plan → Fresh (machine_in k.sound.job) k.marks.now → MarkingAll plan k k 0
+all_start s fresh = record { sound = refl; within = omega arith; ahead = s; few = record { each = λ c. omega (arith, fresh.none c) }; same = refl }
 
-module _ {m : Machine} {plan : List ℕ} {p : ℕ} {marks₀ marks : List ℕ} (k : MarkingAll m plan p marks₀ marks) where
-  pub all_more : {vs : List ℕ} {e : ℕ} {marks' : List ℕ} → First m plan p vs e → marks' ≡ noted (visits_from m m.initial vs) p marks → MarkingAll m plan e marks₀ marks'
-  all_more {vs} {e} {marks'} f h =
-      let g : marks' ≡ noted (visits m vs) p marks = h ∙ noted_run_lem m vs p marks f.run in
-      record {
+module _ {plan : List ℕ} {k₀ k : Passes} {p : ℕ} (t : MarkingAll plan k₀ k p) where
+  pub all_more : {vs : List ℕ} {e : ℕ} {k' : Passes} → First (machine_in k.sound.job) plan p vs e
+      → k' ≡ marked (visits_from (machine_in k.sound.job) k.sound.job.frame.initial vs) p k → MarkingAll plan k₀ k' e
+  all_more {vs} {e} {k'} f h =
+      let m = machine_in k.sound.job in
+      let g : k' ≡ marked (visits m vs) p k = h ∙ ap (λ (l : List ℕ). record k { marks = record k.marks { now = l } }) (noted_run_lem m vs p k.marks.now f.run) in
+      subst (λ j. MarkingAll plan k₀ j e) (sym g) (record {
+        sound = t.sound;
         within = f.at.within;
         ahead = f.behind;
-        as_long = rw g (length_noted (visits m vs) p marks ∙ k.as_long);
-        few = rw g (few_noted (visits m vs) k.few k.within);
+        few = few_noted (visits m vs) t.few t.within;
         same =
-            let turn : noted_all m p (runs_in (drop p plan)) marks ≡ noted_all m e (runs_in (drop e plan)) marks' =
-            ap (λ (runs : List (List ℕ)). noted_all m p runs marks) f.first ∙ ap₂ (λ (q : ℕ) (l : List ℕ). noted_all m q (runs_in (drop e plan)) l) (sym f.at.ends) (sym g) in
-            sym turn ∙ k.same;
-      }
+            let turn : noted_all m p (runs_in (drop p plan)) k.marks.now ≡ noted_all m e (runs_in (drop e plan)) (noted (visits m vs) p k.marks.now) =
+            ap (λ (runs : List (List ℕ)). noted_all m p runs k.marks.now) f.first ∙ ap (λ (q : ℕ). noted_all m q (runs_in (drop e plan)) (noted (visits m vs) p k.marks.now)) (sym f.at.ends) in
+            sym turn ∙ t.same;
+      })
 
   -- all bytes are gone through
-  pub all_end : length plan ≤ p → couples m ≤ length marks₀ → ((c : ℕ) → get_or marks₀ c 0 ≡ 0) → Tells m 0 [] (runs_in plan) marks
-  all_end l room none =
-      let e : p ≡ length plan = omega (arith, k.within) in
-      subst (Tells m 0 [] (runs_in plan)) (sym (rw (e, drop-length) at k.same)) (all_tells m (runs_in plan) marks₀ room none)
+  pub all_end : length plan ≤ p → Fresh (machine_in k₀.sound.job) k₀.marks.now → Tells (machine_in k₀.sound.job) 0 [] (runs_in plan) k.marks.now
+  all_end l fresh =
+      let m = machine_in k.sound.job in
+      let e : p ≡ length plan = omega (arith, t.within) in
+      subst (λ (j : SoundJob). Fresh (machine_in j.job) k₀.marks.now → Tells (machine_in j.job) 0 [] (runs_in plan) k.marks.now) t.sound
+      (λ f. subst (Tells m 0 [] (runs_in plan)) (sym (rw (e, drop-length) at t.same)) (all_tells m (runs_in plan) k₀.marks.now f)) fresh

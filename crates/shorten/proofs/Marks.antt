@@ -15,7 +15,7 @@ use Rattle.machine.proofs.Members.{in_front, in_back, in_either}
 use Rattle.machine.proofs.Exists.{marked_below}
 use Rattle.machine.proofs.Stored.{stored_append}
 use Rattle.shorten.specs.Shortening.{Superfluous}
-use Rattle.shorten.specs.inner.Passing.{noted, Reach, Few, Tells}
+use Rattle.shorten.specs.inner.Passing.{noted, Reach, Few, Fresh, Tells}
 
 -- what marking couples leaves at one of them
 abbrev NotedAt : List ℕ → ℕ → ℕ → ℕ → ℕ → Type 0
@@ -52,6 +52,10 @@ module _ (m : Machine) where
   abbrev pub noted_all : ℕ → List (List ℕ) → List ℕ → List ℕ
   noted_all p [] marks = marks
   noted_all p (vs ∷ runs) marks = noted_all (p + length (stored_run vs)) runs (noted (visits m vs) p marks)
+
+  length_all : (runs : List (List ℕ)) (p : ℕ) (marks : List ℕ) → length (noted_all p runs marks) ≡ length marks
+  length_all [] p marks = refl
+  length_all (vs ∷ runs) p marks = length_all runs (p + length (stored_run vs)) (noted (visits m vs) p marks) ∙ length_noted (visits m vs) p marks
 
   first_or : (c : ℕ) (vs : List ℕ) (runs : List (List ℕ)) → VisitedBy m c (vs ∷ runs) → In c (visits m vs) ⊎ VisitedBy m c runs
   first_or c vs runs (ws, i, j) = ⊎_elim (λ e. inl (subst (λ us. In c (visits m us)) e j)) (λ k. inr (ws, k, j)) i
@@ -107,16 +111,18 @@ module _ (m : Machine) where
   stored_some (vs ∷ runs) h = omega arith
 
   -- the first pass makes fresh marks tell
-  pub all_tells : (runs : List (List ℕ)) (marks : List ℕ) → couples m ≤ length marks → ((c : ℕ) → get_or marks c 0 ≡ 0) → Tells m 0 [] runs (noted_all 0 runs marks)
-  all_tells runs marks room none = record {
+  pub all_tells : (runs : List (List ℕ)) (marks : List ℕ) → Fresh m marks → Tells m 0 [] runs (noted_all 0 runs marks)
+  all_tells runs marks fresh = record {
+    room = omega (arith, fresh.room, length_all runs 0 marks);
     told = λ done later c e some h. subst (λ l. (0 + length (stored done) ≤ get_or (noted_all 0 l marks) c 0) ↔ VisitedBy m c later) (sym e)
-        (all_tell done later 0 marks c (omega arith) (omega (arith, none c, stored_some done some)));
+        (all_tell done later 0 marks c (omega (arith, fresh.room)) (omega (arith, fresh.none c, stored_some done some)));
   }
 
   module _ {p : ℕ} {kept later : List (List ℕ)} {marks : List ℕ} (vs : List ℕ) (t : Tells m p kept (vs ∷ later) marks) where
     -- with the first run taken out they go on telling
     pub tells_out : Tells m (p + length (stored_run vs)) kept later marks
     tells_out = record {
+      room = t.room;
       told = λ done after c e some h.
           let (to, from) = t.told (vs ∷ done) after c (ap (λ (l : List (List ℕ)). vs ∷ l) e) (omega arith) h in
           let n = length-append (stored_run vs) (stored done) in
@@ -124,9 +130,12 @@ module _ (m : Machine) where
     }
 
     -- and so they do where it stays, its couples marked with as much as all the bytes
-    pub tells_stays : (total : ℕ) → couples m ≤ length marks → p + length (stored (vs ∷ later)) ≤ total
+    pub tells_stays : (total : ℕ) → p + length (stored (vs ∷ later)) ≤ total
         → Tells m (p + length (stored_run vs)) (kept ++ (vs ∷ [])) later (noted (visits m vs) total marks)
-    tells_stays total room fits = record { told = λ done after c e some h. by done after c e some h (noted_at_lem (visits m vs) total marks c (omega arith)) }
+    tells_stays total fits = record {
+      room = omega (arith, t.room, length_noted (visits m vs) total marks);
+      told = λ done after c e some h. by done after c e some h (noted_at_lem (visits m vs) total marks c (omega (arith, t.room)));
+    }
       where
         by : (done after : List (List ℕ)) (c : ℕ) → later ≡ done ++ after → 0 < length done → c < couples m
             → NotedAt (visits m vs) total c (get_or marks c 0) (get_or (noted (visits m vs) total marks) c 0)

@@ -1,55 +1,37 @@
--- The ways in which shortening ends: refused by 2, 3, 4 or 10, by 19, or done. Passing the checks gives the two passes a table that passed
--- and stored runs of it.
+-- Passing the checks of shortening gives the two passes stored runs of the table, and makes the verdict of the whole.
 use mathlib.Core.Path.{◌≡◌, refl}
-use mathlib.Core.List.{List, [], ◌∷◌}
+use mathlib.Core.List.{List, []}
 use Prim.Native.Nat.{ℕ}
-use Rattle.verdict.specs.Checks.{check, Passed, Judged}
+use native.Mathlib.Omega.{arith}
+use Rattle.verdict.specs.Checks.{Passed, Judged}
+use Rattle.verdict.specs.Refusals.{number_of, refused_by}
 use Rattle.verdict.specs.declared.Answer.{Answer}
+use Rattle.verdict.specs.declared.Refusal.{Refusal}
 use Rattle.verdict.proofs.Order.{judged_on, judged_stop, judged_passes, judged_within}
-use Rattle.verdict.proofs.Fills.{written_nothing, written_done}
-use Rattle.machine.specs.Limits.{most_couples}
+use Rattle.verdict.proofs.Fills.{written_nothing}
+use Rattle.verdict.proofs.Refusals.{refusal_number}
 use Rattle.machine.specs.Runs.{Machine}
-use Rattle.machine.proofs.Sizes.{couples_few}
-use Rattle.tables.specs.Tables.{table_checks}
-use Rattle.tables.specs.inner.Fits.{Checked}
-use Rattle.tables.proofs.Gate.{checked}
-use Rattle.runs.specs.Stored.{StoredRuns, Broken, broken_checks}
+use Rattle.tables.specs.Tables.{Tabled, table_checks}
+use Rattle.runs.specs.Stored.{StoredRuns, broken_checks}
 use Rattle.runs.proofs.Broken.{stored_runs}
-use Rattle.shorten.specs.Shortening.{shorten_checks, ShortenedAs}
-use Rattle.shorten.specs.inner.Passing.{Ground, Kept}
+use Rattle.shorten.specs.Shortening.{shorten_checks, ShortenDone, ShortenedAs}
+use Rattle.shorten.specs.inner.Passing.{Kept}
 
-module _ (m : Machine) (bytes : List ℕ) where
-  -- a refusal writes nothing
-  refused : {a : Answer} → Judged (shorten_checks m bytes) Passed a → (a.number ≡ 0 → ⊥) → ShortenedAs m bytes a bytes
-  refused v n = record { verdict = judged_stop [] v n; plan = written_nothing n }
+-- the answer of a check that passed
+abbrev nothing : Answer
+nothing = record { number = 0; place = 0 }
 
-  module _ {a : Answer} (v : Judged (table_checks m) Passed a) where
-    pub no_table : (a.number ≡ 0 → ⊥) → ShortenedAs m bytes a bytes
-    no_table n = refused (judged_stop (check 19 (Broken m bytes) ∷ []) v n) n
+-- a refusal by 19 writes nothing
+pub no_runs : {m : Machine} {bytes : List ℕ} (r : Refusal) → Tabled m → Judged (table_checks m) Passed nothing → Judged (broken_checks m bytes) Passed (refused_by r) → ShortenedAs m bytes (refused_by r) bytes
+no_runs r k v w =
+    let n : number_of r ≡ 0 → ⊥ = λ e. omega (arith, refusal_number r) in
+    record { verdict = judged_stop [] (judged_on 10 v refl refl (judged_within k w)) n; plan = written_nothing n }
 
-    module _ (e : a.number ≡ 0) {b : Answer} (w : Judged (broken_checks m bytes) Passed b) where
-      passed : Checked m
-      passed = checked m (judged_passes 10 v refl e)
+module _ {m : Machine} {bytes : List ℕ} (k : Tabled m) (w : Judged (broken_checks m bytes) Passed nothing) where
+  pub split : StoredRuns m bytes
+  split = (stored_runs m bytes).0 (judged_passes 19 (judged_within k w) refl refl).0
 
-      broken : Judged (check 19 (Broken m bytes) ∷ []) Passed b
-      broken = judged_within passed.tabled w
-
-      all : Judged (shorten_checks m bytes) Passed b
-      all = judged_on 10 v refl e broken
-
-      pub no_runs : (b.number ≡ 0 → ⊥) → ShortenedAs m bytes b bytes
-      no_runs n = refused all n
-
-      -- so many marks are enough
-      pub ground : Ground m most_couples
-      ground = record { checked = passed; room = couples_few passed.tabled.sized }
-
-      module _ (f : b.number ≡ 0) where
-        pub split : StoredRuns m bytes
-        split = (stored_runs m bytes).0 (judged_passes 19 broken refl f).0
-
-        pub done : {k : ℕ} {plan : List ℕ} → Kept m bytes k plan → ShortenedAs m bytes (record { number = 0; place = k }) plan
-        done x = record {
-          verdict = judged_on 19 all refl f (record { verdict = record { number = refl; kept = x.bytes; shortened = x.shortened; place = x.count } });
-          plan = written_done refl x.front x.shortened;
-        }
+  pub done : {n : ℕ} {plan : List ℕ} → Judged (table_checks m) Passed nothing → Kept m bytes n plan → Judged (shorten_checks m bytes) (ShortenDone m bytes) (record { number = 0; place = n })
+  done v x =
+      judged_on 10 v refl refl (judged_on 19 (judged_within k w) refl refl
+      (record { verdict = record { number = refl; kept = x.bytes; shortened = x.shortened; place = x.count } }))

@@ -1,2 +1,3 @@
 -- What proofs and private contracts cite, and no public promise.
 pub mod Passing
+pub mod Marked

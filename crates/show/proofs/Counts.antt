@@ -1,55 +1,43 @@
--- Counts of ranks: of no couple, of one couple more, and those of the marked couples. By induction on the couples.
-use mathlib.Core.Path.{◌≡◌, refl, sym, ◌∙◌}
+-- The levels of the marked couples, and the lines of ranks behind a line. By induction on the couples, and on the ranks.
+use mathlib.Core.Path.{◌≡◌, ap, sym, ◌∙◌}
 use mathlib.Core.Bool.{Bool, true, false, cond}
-use mathlib.Core.List.{List, [], ◌∷◌}
-use Prim.Native.Nat.{ℕ, suc, ◌+◌, ◌-◌, ◌≤◌, ◌<◌}
-use native.Mathlib.Numerals.{add-one}
+use mathlib.Core.List.{List, [], ◌∷◌, ◌++◌, append_assoc, append-nil}
+use mathlib.Core.Logic.{⊎_elim}
+use Prim.Native.Nat.{ℕ, zero, suc, ◌+◌, ◌<◌, max}
+use native.Mathlib.Nat.{eq-or-lt_of_le}
 use native.Mathlib.Omega.{arith}
 use lib.Dec.{eqb}
-use lib.ListN.{length, get_or, set, replicate, length-set, length-replicate, get_or-replicate}
-use lib.Seq.{get_or-set_same, get_or-set_other}
-use borrow.Author.Tests.{eqb-true, eqb-false, ne_eqb}
+use Rattle.std.specs.Prelude.{not, ◌==◌, filter, fold}
 use Rattle.machine.specs.Limits.{unmarked}
-use Rattle.show.specs.Sheet.{count_of, marked_in}
-use Rattle.show.specs.inner.Steps.{Counted}
+use Rattle.show.specs.Sheet.{ranks_in, rank_line, rank_lines}
 
-pub count_fits : (r : ℕ) (ranks : List ℕ) → count_of r ranks ≤ length ranks
-count_fits r [] = omega arith
-count_fits r (x ∷ ranks) = go (eqb x r) (count_fits r ranks)
+-- a marked couple has a level of its rank and one more
+abbrev is_marked : ℕ → Bool
+is_marked x = not (x == unmarked)
+
+-- the greatest level of the marked couples, if none of the others is above n
+abbrev greatest : ℕ → List ℕ → ℕ
+greatest n ranks = fold (λ a x. max a (x + 1)) n ranks
+
+levels_from : (n : ℕ) (ranks : List ℕ) → greatest n (filter is_marked ranks) ≡ max n (ranks_in ranks)
+levels_from n [] = omega arith
+levels_from n (x ∷ ranks) = by (eqb x unmarked) (λ k. levels_from k ranks)
   where
-    go : (t : Bool) → count_of r ranks ≤ length ranks → cond t (suc (count_of r ranks)) (count_of r ranks) ≤ suc (length ranks)
-    go true h = omega arith
-    go false h = omega arith
+    by : (t : Bool) → ((k : ℕ) → greatest k (filter is_marked ranks) ≡ max k (ranks_in ranks))
+        → greatest n (cond (not t) (x ∷ filter is_marked ranks) (filter is_marked ranks)) ≡ max n (cond t (ranks_in ranks) (max (suc x) (ranks_in ranks)))
+    by true rest = rest n
+    by false rest = rest (max n (x + 1)) ∙ omega arith
 
--- every couple is marked or not
-pub marked_rest : (ranks : List ℕ) → marked_in ranks + count_of unmarked ranks ≡ length ranks
-marked_rest [] = refl
-marked_rest (x ∷ ranks) = go (eqb x unmarked) (marked_rest ranks)
-  where
-    go : (t : Bool) → marked_in ranks + count_of unmarked ranks ≡ length ranks
-        → cond t (marked_in ranks) (suc (marked_in ranks)) + cond t (suc (count_of unmarked ranks)) (count_of unmarked ranks) ≡ suc (length ranks)
-    go true h = omega arith
-    go false h = omega arith
+pub levels_are : (ranks : List ℕ) → fold (λ a x. max a (x + 1)) 0 (filter (λ x. not (x == unmarked)) ranks) ≡ ranks_in ranks
+levels_are ranks = levels_from 0 ranks ∙ omega arith
 
-pub marked_are : (ranks : List ℕ) {n : ℕ} → n ≡ count_of unmarked ranks → length ranks - n ≡ marked_in ranks
-marked_are ranks e = omega (arith, marked_rest ranks)
-
-pub counted_none : (n : ℕ) → Counted n [] (replicate n 0)
-counted_none n = record { whole = length-replicate {A = ℕ} n 0; each = λ r h. get_or-replicate {A = ℕ} n r 0 0 h }
-
-pub counted_more : {n : ℕ} {ranks counts : List ℕ} (x : ℕ) → x < n → Counted n ranks counts → Counted n (x ∷ ranks) (set counts x (get_or counts x 0 + 1))
-counted_more {n} {ranks} {counts} x l k =
-    record {
-      whole = length-set counts x (get_or counts x 0 + 1) ∙ k.whole;
-      each = λ r h. go r h (eqb x r) refl;
-    }
-  where
-    go : (r : ℕ) → r < n → (t : Bool) → eqb x r ≡ t → get_or (set counts x (get_or counts x 0 + 1)) r 0 ≡ cond (eqb x r) (suc (count_of r ranks)) (count_of r ranks)
-    go r h true e =
-        let s : x ≡ r = eqb-true x r e in
-        rw (e, ← s, get_or-set_same counts x (get_or counts x 0 + 1) 0 (omega (arith, k.whole)), k.each x l) (add-one (count_of x ranks))
-    go r h false e = rw (e, get_or-set_other counts x r (get_or counts x 0 + 1) 0 (λ s. eqb-false x r e (sym s))) (k.each r h)
-
--- a rank that the counts do not reach
-pub counted_past : {n : ℕ} {ranks counts : List ℕ} (x : ℕ) → n ≤ x → Counted n ranks counts → Counted n (x ∷ ranks) counts
-counted_past x l k = record { whole = k.whole; each = λ r h. rw (ne_eqb x r (λ e. omega arith)) (k.each r h) }
+-- a line and those behind it
+pub lines_split : (count : ℕ → ℕ) (r n : ℕ) → r < n → (rest : List ℕ) × (rank_lines count n ≡ (rank_lines count r ++ rank_line r (count r)) ++ rest)
+lines_split count r zero h = absurd (omega arith)
+lines_split count r (suc n) h =
+    ⊎_elim
+    (λ (e : r ≡ n). ([], rw e (sym (append-nil (rank_lines count n ++ rank_line n (count n))))))
+    (λ (l : r < n).
+    let (rest, e) = lines_split count r n l in
+    (rest ++ rank_line n (count n), ap (λ (l : List ℕ). l ++ rank_line n (count n)) e ∙ append_assoc (rank_lines count r ++ rank_line r (count r)) rest (rank_line n (count n))))
+    (eq-or-lt_of_le (omega arith))

@@ -2,8 +2,8 @@ pub mod Counts
 pub mod Digits
 pub mod Examples
 pub mod Lists
-pub mod Multi
 pub mod Only
 pub mod Over
 pub mod Room
+pub mod Runs
 pub mod Steps

@@ -6,8 +6,9 @@ use Prim.Native.Nat.{ℕ, suc, ◌≤◌, ◌<◌}
 use native.Mathlib.Omega.{arith}
 use lib.Dec.{leb}
 use lib.ListN.{length, set}
-use borrow.Author.Tests.{leb-true, leb-false, le-leb, lt-leb}
-use Rattle.show.specs.declared.Written.TheVariants.{All, Short}
+use borrow.Author.Tests.{leb-true, le-leb, lt-leb}
+use Rattle.std.specs.Prelude.{Result, Ok, Err}
+use Rattle.show.specs.declared.Short.{Short}
 use Rattle.show.specs.Written.{over, written}
 
 pub length_over : (text out : List ℕ) → length (over text out) ≡ length out
@@ -30,10 +31,10 @@ over_byte [] b (y ∷ out) h = refl
 over_byte (x ∷ text) b [] h = absurd (omega arith)
 over_byte (x ∷ text) b (y ∷ out) h = ap (λ (l : List ℕ). x ∷ l) (over_byte text b out (omega arith))
 
-pub written_fits : (text out : List ℕ) → length text ≤ length out → written text out ≡ All (length text)
+pub written_fits : (text out : List ℕ) → length text ≤ length out → written text out ≡ Ok (length text)
 written_fits text out h = rw (le-leb _ _ h)
 
-pub written_short : (text out : List ℕ) → length out < length text → written text out ≡ Short
+pub written_short : (text out : List ℕ) → length out < length text → written text out ≡ Err (record {})
 written_short text out h = rw (lt-leb _ _ h)
 
 -- what an answer tells of the lengths
@@ -41,16 +42,9 @@ pub record Fits (n : ℕ) (text out : List ℕ) : Type 0 where
   pub count : n ≡ length text
   pub room : length text ≤ length out
 
-pub told_all : (text out : List ℕ) (n : ℕ) → All n ≡ written text out → Fits n text out
+pub told_all : (text out : List ℕ) (n : ℕ) → Ok n ≡ written text out → Fits n text out
 told_all text out n e = go (leb (length text) (length out)) refl e
   where
-    go : (t : Bool) → leb (length text) (length out) ≡ t → All n ≡ cond t (All (length text)) Short → Fits n text out
+    go : (t : Bool) → leb (length text) (length out) ≡ t → ◌≡◌ {A = Result ℕ Short} (Ok n) (cond t (Ok (length text)) (Err (record {}))) → Fits n text out
     go true l e = record { count = cc; room = leb-true _ _ l }
-    go false l e = let z : ◌≡◌ {A = ℕ} 0 1 = cc in absurd (omega arith)
-
-pub told_short : (text out : List ℕ) → Short ≡ written text out → length out < length text
-told_short text out e = go (leb (length text) (length out)) refl e
-  where
-    go : (t : Bool) → leb (length text) (length out) ≡ t → Short ≡ cond t (All (length text)) Short → length out < length text
-    go true l e = let z : ◌≡◌ {A = ℕ} 0 1 = cc in absurd (omega arith)
-    go false l e = leb-false _ _ l
+    go false l e = absurd (cc)

@@ -3,7 +3,7 @@
 -- A number has as many digits as its tenth part and one more; a line of the plan has at most 5 bytes for each byte that stores its run,
 -- one of the list at most 4.
 -- The line of a refusal is short. By induction on the ranks, on the settings and on the runs.
-use mathlib.Core.Path.{◌≡◌, refl, sym, ap, ◌∙◌}
+use mathlib.Core.Path.{◌≡◌, refl}
 use mathlib.Core.Bool.{Bool, true, false, cond}
 use mathlib.Core.List.{List, [], ◌∷◌, map}
 use mathlib.Core.Logic.{◌⊎◌, ⊎_elim}
@@ -11,8 +11,10 @@ use Prim.Native.Nat.{ℕ, zero, suc, ◌+◌, ◌*◌, ◌/◌, ◌^◌, ◌≤�
 use native.Mathlib.Nat.{pow-succ'}
 use native.Mathlib.Omega.{arith}
 use lib.Dec.{eqb, ltb}
-use lib.ListN.{length, get_or, take, drop, length-append, take-append-drop}
+use lib.ListN.{length, get_or, take, drop, length-append, length-take, length-drop}
 use borrow.Author.Tests.{ltb-true, ltb-false, eq-eqb}
+use Rattle.std.specs.Prelude.{not, ◌==◌}
+use Rattle.std.proofs.lemmas.List.Sums.{count_by-le-length}
 use Rattle.basics.specs.Texts.{letters}
 use Rattle.machine.specs.Limits.{unmarked}
 use Rattle.machine.specs.Plans.{split}
@@ -20,7 +22,6 @@ use Rattle.several.specs.Lists.{split_list}
 use Rattle.show.specs.Digits.{digits}
 use Rattle.show.specs.Sheet.{count_of, marked_in, ranks_in, fields_behind, line, first_line, rank_lines, run_lines, multi_lines, sheet_text, refusal_text}
 use Rattle.show.proofs.Digits.{digits_one, digits_more}
-use Rattle.show.proofs.Counts.{count_fits, marked_rest}
 
 -- numbers below m have at most k digits
 abbrev Room : ℕ → ℕ → Type 0
@@ -55,10 +56,6 @@ bytes_drop zero l h = h
 bytes_drop (suc n) [] h = tt
 bytes_drop (suc n) (x ∷ l) h = bytes_drop n l h.1
 
--- a list cut in two
-cut : (n : ℕ) (l : List ℕ) → length (take n l) + length (drop n l) ≡ length l
-cut n l = sym (length-append (take n l) (drop n l)) ∙ ap length (take-append-drop n l)
-
 settings_room : (l : List ℕ) → Bytes l → length (fields_behind (map digits l)) ≤ 4 * length l + 1
 settings_room [] h = omega arith
 settings_room (x ∷ l) h = simp length-append (omega (arith, room_up 2 x (omega (arith, h.0)), settings_room l h.1))
@@ -69,8 +66,8 @@ runs_room (suc f) k [] h b = omega arith
 runs_room (suc f) k (low ∷ []) h b = omega arith
 runs_room (suc f) k (low ∷ high ∷ bs) h b =
     let n = high * 256 + low in
-    let others = runs_room f (suc k) (drop n bs) (omega (arith, cut n bs)) (bytes_drop n bs b.1.1) in
-    simp length-append (omega (arith, room_up 4 k (omega arith), settings_room (take n bs) (bytes_take n bs b.1.1), cut n bs))
+    let others = runs_room f (suc k) (drop n bs) (omega (arith, length-take n bs, length-drop n bs)) (bytes_drop n bs b.1.1) in
+    simp length-append (omega (arith, room_up 4 k (omega arith), settings_room (take n bs) (bytes_take n bs b.1.1), length-take n bs, length-drop n bs))
 
 multi_room : (f : ℕ) (bs : List ℕ) → Bytes bs → length (multi_lines (split_list f bs)) ≤ 4 * length bs
 multi_room zero bs h = omega arith
@@ -81,7 +78,7 @@ multi_room (suc f) (a ∷ b ∷ low ∷ []) h = omega arith
 multi_room (suc f) (a ∷ b ∷ low ∷ high ∷ bs) (x, (y, (z, (w, h)))) =
     let n = high * 256 + low in
     let others = multi_room f (drop n bs) (bytes_drop n bs h) in
-    simp length-append (omega (arith, room_up 4 (b * 256 + a) (omega arith), settings_room (take n bs) (bytes_take n bs h), cut n bs))
+    simp length-append (omega (arith, room_up 4 (b * 256 + a) (omega arith), settings_room (take n bs) (bytes_take n bs h), length-take n bs, length-drop n bs))
 
 ranks_room : (count : ℕ → ℕ) (n : ℕ) → n < 100000 → ((r : ℕ) → count r < 100000) → length (rank_lines count n) ≤ 17 * n
 ranks_room count zero h c = omega arith
@@ -97,8 +94,8 @@ first_room inputs states couples marked i s c m =
 pub sheet_room : (inputs states : ℕ) (ranks plan list : List ℕ) → inputs < 10 → states < 100 → length ranks < 100000 → ranks_in ranks ≤ length ranks
     → length plan < 99999 → Bytes plan → Bytes list → length (sheet_text inputs states ranks plan list) ≤ 46 + 17 * length ranks + 5 * length plan + 4 * length list
 sheet_room inputs states ranks plan list i s c r p b d =
-    let first = first_room inputs states (length ranks) (marked_in ranks) i s c (omega (arith, marked_rest ranks)) in
-    let middle = ranks_room (λ k. count_of k ranks) (ranks_in ranks) (omega arith) (λ k. omega (arith, count_fits k ranks)) in
+    let first = first_room inputs states (length ranks) (marked_in ranks) i s c (omega (arith, count_by-le-length (λ x. not (x == unmarked)) ranks)) in
+    let middle = ranks_room (λ k. count_of k ranks) (ranks_in ranks) (omega arith) (λ k. omega (arith, count_by-le-length (λ x. x == k) ranks)) in
     let runs = runs_room (length plan) 1 plan (omega arith) b in
     simp length-append (omega (arith, multi_room (length list) list d))
 

@@ -1,5 +1,5 @@
 -- The sheet, as document 01 prints it at the end of its examples. Assumes nothing.
-use Rattle.std.specs.Prelude.{cond, List, [], ◌∷◌, ◌++◌, map, ℕ, zero, suc, max, length, eqb}
+use Rattle.std.specs.Prelude.{cond, List, [], ◌∷◌, ◌++◌, map, ℕ, zero, suc, max, length, eqb, not, ◌==◌, count_by}
 use Rattle.basics.specs.Texts.{letters}
 use Rattle.machine.specs.Limits.{unmarked}
 use Rattle.machine.specs.Plans.{runs_in}
@@ -17,13 +17,11 @@ line word fields = word ++ fields_behind fields
 
 -- how many couples have the rank r
 abbrev pub count_of : ℕ → List ℕ → ℕ
-count_of r [] = 0
-count_of r (x ∷ ranks) = cond (eqb x r) (suc (count_of r ranks)) (count_of r ranks)
+count_of r ranks = count_by (λ x. x == r) ranks
 
 -- how many couples are marked
 abbrev pub marked_in : List ℕ → ℕ
-marked_in [] = 0
-marked_in (x ∷ ranks) = cond (eqb x unmarked) (marked_in ranks) (suc (marked_in ranks))
+marked_in ranks = count_by (λ x. not (x == unmarked)) ranks
 
 -- how many ranks there are from 0 to the highest of a marked couple; none where no couple is marked
 abbrev pub ranks_in : List ℕ → ℕ

@@ -18,8 +18,7 @@ use Rattle.machine.proofs.Couples.{couple_of, couple_below}
 use Rattle.machine.proofs.Same.{transient_into}
 use Rattle.machine.proofs.Sizes.{sizes}
 use Rattle.machine.proofs.Soundness.{sound_machine}
-use Rattle.tables.specs.Tables.{start_checks}
-use Rattle.tables.specs.inner.Fits.{Checked}
+use Rattle.tables.specs.Tables.{start_checks, Checked}
 use Rattle.specification.specs.Records.{sizes_of, settings, couples}
 use Rattle.specification.specs.Rules.{MoveAt, TableOf, FrameOf}
 use Rattle.specification.specs.Reading.{file_checks, ReadHere}

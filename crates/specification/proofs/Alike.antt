@@ -13,7 +13,7 @@ use native.Mathlib.Nat.{eq-or-lt_of_le, le_of_suc-le-suc}
 use lib.ListN.{length, get_or, take}
 use lib.Pow.{pow_pos}
 use Rattle.condition.specs.Condition.{Reads}
-use Rattle.verdict.specs.Checks.{check, None, Past}
+use Rattle.verdict.specs.Checks.{check, Nowhere, Past}
 use Rattle.verdict.specs.Buffers.{Left}
 use Rattle.verdict.specs.declared.Answer.{Answer}
 use Rattle.verdict.proofs.Order.{Passes, judged_past, judged_rest, judged_number, judged_unique, long}
@@ -47,7 +47,7 @@ below_not {P} each (suc k) n =
     below_not each k (λ a. each k (λ p. n (λ r h. ⊎_elim (λ e. subst P (sym e) p) (a r) (eq-or-lt_of_le (le_of_suc-le-suc h)))))
 
 -- where 5 fails nowhere, it cannot be that not all conditions of evolutions read
-all_read : {f : List ℕ} {z : Sizes} → z.worded ≡ z.states → None (Unreads f z) → (AllRead f z → ⊥) → ⊥
+all_read : {f : List ℕ} {z : Sizes} → z.worded ≡ z.states → Nowhere (Unreads f z) → (AllRead f z → ⊥) → ⊥
 all_read {f} {z} worded ok n =
     below_not {P = λ r. Evolves z r → Reads z.inputs (text_of f z r)}
     (λ r m. m (λ e. absurd (ok.nowhere r (record {
@@ -94,7 +94,7 @@ alike_stable {t = t} {t'} {w} {w'} n = record {
 
 module _ {file table words : List ℕ} {room : ℕ} {r : Contents} {t w : List ℕ} (u : ReadHere file table words room r t w) where
   -- past 1 to 5 no record is beyond, and no condition does not read
-  texts_pass : Past 5 r.answer.number → None (Beyond file (sizes_of file)) × None (Unreads file (sizes_of file))
+  texts_pass : Past 5 r.answer.number → Nowhere (Beyond file (sizes_of file)) × Nowhere (Unreads file (sizes_of file))
   texts_pass past =
       let p = (judged_past (shape_checks file (length table) (length words) room ++ check 4 (Beyond file (sizes_of file)) ∷ check 5 (Unreads file (sizes_of file)) ∷ []) 5 u.verdict refl past).0 in
       (p.1.1.1.1.1.0, p.1.1.1.1.1.1.0)
@@ -182,12 +182,12 @@ read_alike {f} u marked fit past u' h k l =
     all_read (rewritten f x.0 x.1 without).worded (texts_pass u past).1 (λ all. n (alike u past x.0 x.1 without all fit u' h k l))))
 
 -- a record beyond, or a condition that does not read, is so with rest conditions
-texts_back : (f : List ℕ) → WellFormed f → Sized f → rests_of f ≡ false → None (Beyond (with_rests f) (sizes_of (with_rests f))) × None (Unreads (with_rests f) (sizes_of (with_rests f)))
+texts_back : (f : List ℕ) → WellFormed f → Sized f → rests_of f ≡ false → Nowhere (Beyond (with_rests f) (sizes_of (with_rests f))) × Nowhere (Unreads (with_rests f) (sizes_of (with_rests f)))
     → Passes (check 4 (Beyond f (sizes_of f)) ∷ check 5 (Unreads f (sizes_of f)) ∷ [])
 texts_back f wf sz without p =
     let l = laid f wf sz in
     let w = rewritten f wf sz without in
-    let p = subst (λ y. None (Beyond (with_rests f) y) × None (Unreads (with_rests f) y)) (sizes_are f wf sz) p in
+    let p = subst (λ y. Nowhere (Beyond (with_rests f) y) × Nowhere (Unreads (with_rests f) y)) (sizes_are f wf sz) p in
     (record { nowhere = λ r x. p.0.nowhere r (beyond_into w.shares (sizes_of f).worded 0 r x) }, (record { nowhere = λ r x. p.1.nowhere r (unreads l w r x) }, tt))
 
 -- And back: where the file with rest conditions is read, or refused by 6 or later, the file without is not refused by 4 or 5.

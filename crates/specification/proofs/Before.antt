@@ -10,7 +10,7 @@ use native.Mathlib.Omega.{arith}
 use lib.ListN.{length}
 use lib.Dec.{eqb}
 use Rattle.condition.specs.Condition.{Reads, Holds}
-use Rattle.verdict.specs.Checks.{None, Unless, Passed, Judged}
+use Rattle.verdict.specs.Checks.{Nowhere, Unless, Passed, Judged}
 use Rattle.verdict.specs.declared.Answer.{Answer}
 use Rattle.verdict.proofs.Order.{judged_row, judged_same, unless, judged_passes, judged_unique}
 use Rattle.verdict.proofs.Tests.{decides_or, decides_true, decides_equal, ◌also◌}
@@ -67,14 +67,14 @@ module _ (file : List ℕ) (rests : rests_of file ≡ true) (four : count_of fil
   four_sized x = record { ranges = x.ranges; states = x.states; texts = x.texts }
 
   -- 13: there is no other kind, so setting 0 is the only start and is not ruled out
-  no_other : None (Unless (WellFormed file)) → {kind : ℕ} → kinds < kind → Has file kind → ⊥
+  no_other : Nowhere (Unless (WellFormed file)) → {kind : ℕ} → kinds < kind → Has file kind → ⊥
   no_other w l (k, o) = w.nowhere 0 (refl, λ x. omega (arith, four, o.there, o.is, x.entries.always k (omega (arith, four, o.there))))
 
-  zero_start : None (Unless (WellFormed file)) → (v : ℕ) × Start (Moves file (sizes_of file)) (MayStart file (sizes_of file)) (settings (sizes_of file)) (sizes_of file).initial v
+  zero_start : Nowhere (Unless (WellFormed file)) → (v : ℕ) × Start (Moves file (sizes_of file)) (MayStart file (sizes_of file)) (settings (sizes_of file)) (sizes_of file).initial v
       → (v : ℕ) × Start (Moves file (sizes_of file)) (λ v. v ≡ 0) (settings (sizes_of file)) (sizes_of file).initial v
   zero_start w (v, x) = (v, record { below = x.below; rests = x.rests; allowed = zero_allowed (no_other w (omega arith)) x.allowed.0 })
 
-  start_left : None (Unless (WellFormed file)) → (v : ℕ) × Start (Moves file (sizes_of file)) (λ v. v ≡ 0) (settings (sizes_of file)) (sizes_of file).initial v
+  start_left : Nowhere (Unless (WellFormed file)) → (v : ℕ) × Start (Moves file (sizes_of file)) (λ v. v ≡ 0) (settings (sizes_of file)) (sizes_of file).initial v
       → (v : ℕ) × Start (Moves file (sizes_of file)) (MayStart file (sizes_of file)) (settings (sizes_of file)) (sizes_of file).initial v
   start_left w (v, x) = (v, record { below = x.below; rests = x.rests; allowed = (power_up (no_other w (omega arith)) x.allowed, none_never (no_other w (omega arith))) })
 

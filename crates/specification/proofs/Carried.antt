@@ -6,7 +6,7 @@ use mathlib.Core.Logic.{⊎_elim}
 use mathlib.Core.List.{List}
 use Prim.Native.Nat.{ℕ, ◌<◌}
 use native.Mathlib.Omega.{arith}
-use Rattle.verdict.specs.Checks.{None, Passed, Judged}
+use Rattle.verdict.specs.Checks.{Nowhere, Passed, Judged}
 use Rattle.verdict.specs.declared.Answer.{Answer}
 use Rattle.verdict.proofs.Order.{judged_row, unless}
 use Rattle.sets.proofs.Arrays.{set_same}
@@ -121,7 +121,7 @@ contents_into {b = b} {c} x q =
 -- 10 to 13: the moves; and so all the checks
 module _ {z : Sizes} {f g : List ℕ} {b c : ℕ} (x : Carries z f b g c) (y : Carries z g c f b) (i : z.initial < z.states) where
   -- moves lead to states, by check 4
-  module _ (n : None (Beyond g (worded_from z c))) where
+  module _ (n : Nowhere (Beyond g (worded_from z c))) where
     below : {s v t : ℕ} → Moves g (worded_from z c) s v t → t < z.states
     below m = subst (λ t. t < z.states) m.leads (leads_below g (worded_from z c) n _ m.fires.below)
 

@@ -9,7 +9,7 @@ use Prim.Native.Nat.{ℕ, ◌≤◌, ◌<◌}
 use native.Mathlib.Omega.{arith}
 use lib.ListN.{take}
 use lib.Dec.{eqb}
-use Rattle.verdict.specs.Checks.{None}
+use Rattle.verdict.specs.Checks.{Nowhere}
 use Rattle.machine.proofs.Order.{below_or}
 use Rattle.specification.specs.File.{mark, rests_of}
 use Rattle.specification.specs.Records.{sizes_of, Evolves}
@@ -53,7 +53,7 @@ module _ {file : List ℕ} {z : Sizes} {v r : ℕ} where
   of_rest h (by_rest _ i) = i
 
 -- without rest conditions a state rests where no evolution from it holds
-pub never_no_rule : (file : List ℕ) (z : Sizes) (m : ℕ) → z.worded ≡ z.states → None (NoRule file z m)
+pub never_no_rule : (file : List ℕ) (z : Sizes) (m : ℕ) → z.worded ≡ z.states → Nowhere (NoRule file z m)
 never_no_rule file z m e =
     record {
       nowhere = λ p x.

@@ -12,10 +12,8 @@ use Rattle.specification.specs.File.{rests_of, count_of, entry_at, start_of, len
 use Rattle.verdict.specs.Below.{sum_to}
 use Rattle.verdict.proofs.Below.{sum_le}
 use Rattle.specification.specs.Records.{sizes_of, Sized, records, word, source, target, Beyond, output_beyond, source_beyond, target_beyond}
-use Rattle.specification.specs.inner.Private.{Laid, Wrong}
+use Rattle.specification.specs.inner.Private.{Laid}
 use Rattle.specification.specs.declared.records.Sizes.{Sizes}
-use Rattle.specification.specs.declared.records.RecordCheck.{RecordCheck}
-use Rattle.specification.specs.declared.records.RecordCheck as RecordCheck
 
 -- a prefix, by its elements
 module _ (file mark : List ℕ) where
@@ -86,13 +84,7 @@ module _ {file : List ℕ} {z : Sizes} {r : ℕ} where
   beyond_state h (source_beyond e w) = inl w
   beyond_state h (target_beyond e w) = inr w
 
-  beyond_below : Beyond file z r → r < records z
+  pub beyond_below : Beyond file z r → r < records z
   beyond_below (output_beyond l w) = omega arith
   beyond_below (source_beyond e w) = e.below
   beyond_below (target_beyond e w) = e.below
-
--- only records fail
-pub wrong_below : (file : List ℕ) (z : Sizes) (check : RecordCheck) (r : ℕ) → Wrong file z check r → r < records z
-wrong_below file z RecordCheck.TheVariants.Beyond r w = beyond_below w
-wrong_below file z RecordCheck.TheVariants.Own r w = w.evolves.below
-wrong_below file z RecordCheck.TheVariants.Twice r w = w.evolves.below

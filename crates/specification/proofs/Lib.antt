@@ -8,7 +8,6 @@ pub mod Forms
 pub mod Scan
 pub mod Settling
 pub mod Outcomes
-pub mod Filling
 pub mod HandOn
 pub mod Once
 pub mod Refusals

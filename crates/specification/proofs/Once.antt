@@ -8,7 +8,7 @@ use Prim.Native.Nat.{ℕ, ◌≤◌, ◌<◌}
 use native.Mathlib.Omega.{arith}
 use native.Mathlib.Decide.{dec_lt, ℕ_discrete}
 use lib.Pow.{pow_pos}
-use Rattle.verdict.specs.Checks.{None}
+use Rattle.verdict.specs.Checks.{Nowhere}
 use Rattle.verdict.specs.declared.Answer.{Answer}
 use Rattle.verdict.proofs.Order.{judged_unique, judged_number, judged_passes}
 use Rattle.verdict.proofs.Fills.{left_unique}
@@ -27,7 +27,7 @@ use Rattle.specification.proofs.Settling.{same_move}
 
 module _ {file table words : List ℕ} {room : ℕ} {r : Contents} {t w : List ℕ} (u : ReadHere file table words room r t w) where
   -- a file that is read has no couple at which two rules hold
-  pub no_two_rules : r.answer.number ≡ 0 → None (TwoRules file (sizes_of file) (settings (sizes_of file)))
+  pub no_two_rules : r.answer.number ≡ 0 → Nowhere (TwoRules file (sizes_of file) (settings (sizes_of file)))
   no_two_rules e = (judged_passes 13 u.verdict refl e).1.1.1.1.1.1.1.1.1.0
 
   few : (r.answer.number ≡ 0) ⊎ (14 ≤ r.answer.number) → r.answer.number ≡ 0

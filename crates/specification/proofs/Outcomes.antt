@@ -1,30 +1,37 @@
--- The ways in which reading ends before the records are handed on: refused by the shape, or by what its rules answer. Each joins the
--- verdicts of the parts, and says what there is to hand on by the number.
-use mathlib.Core.Path.{◌≡◌, refl, sym, subst, subst₂}
-use mathlib.Core.Bool.{false}
+-- The ways in which reading ends before the records are handed on: refused by the shape, or by what its rules answer, or read. Each joins
+-- the verdicts of the parts, and says what there is to hand on.
+use mathlib.Core.Path.{◌≡◌, refl, sym, ap, subst₂, ◌∙◌}
 use mathlib.Core.List.{List}
-use Prim.Native.Nat.{ℕ}
+use Prim.Native.Nat.{ℕ, ◌≤◌}
 use native.Mathlib.Omega.{arith}
 use lib.ListN.{length}
+use Rattle.std.specs.Prelude.{Ok, Err}
 use Rattle.verdict.specs.Checks.{Passed, Judged}
+use Rattle.verdict.specs.Refusals.{number_of, refused_by}
 use Rattle.verdict.specs.declared.Answer.{Answer}
+use Rattle.verdict.specs.declared.Refusal.{Refusal}
 use Rattle.verdict.proofs.Order.{judged_on, judged_stop, judged_number, judged_passes, roomy}
+use Rattle.verdict.proofs.Refusals.{refusal_number}
 use Rattle.verdict.proofs.Fills.{left_same}
-use Rattle.specification.specs.File.{WellFormed}
-use Rattle.specification.specs.Records.{sizes_of, Sized}
-use Rattle.specification.specs.Reading.{shape_checks, refusal_of}
-use Rattle.specification.specs.inner.Private.{Laid, sound_checks, SoundAs, OutcomeAs, CoreAs}
-use Rattle.specification.specs.declared.Contents.{Contents}
+use Rattle.specification.specs.Records.{sizes_of, couples}
+use Rattle.specification.specs.Rules.{FrameOf}
+use Rattle.specification.specs.Reading.{shape_checks, CharacterFor}
+use Rattle.specification.specs.inner.Private.{sound_checks, SoundAs}
+use Rattle.specification.specs.inner.Outcomes.{CoreAs}
+use Rattle.specification.specs.declared.answers.Reading.{Reading}
 use Rattle.specification.specs.declared.records.Sizes.{Sizes}
-use Rattle.specification.specs.declared.answers.Core.{Core}
-use Rattle.specification.proofs.Laws.{laid}
 
-module _ (file table words : List ℕ) (room : ℕ) {s : Answer} (v : Judged (shape_checks file (length table) (length words) room) Passed s) where
+refuses : (r : Refusal) → number_of r ≡ 0 → ⊥
+refuses r e = omega (arith, refusal_number r)
+
+module _ (file table words : List ℕ) (room : ℕ) where
   -- refused by 1, 2 or 3
-  pub early : {k : Contents} → k ≡ refusal_of s 0 → (s.number ≡ 0 → ⊥) → CoreAs file table words room (record { contents = k; from = 0; text = 0; count = 0; good = false }) table words
-  early e n =
+  pub early : (r : Refusal) → Judged (shape_checks file (length table) (length words) room) Passed (refused_by r)
+      → CoreAs file table words room (Err (record { refusal = r; character = 0; blanks = 0 })) table words
+  early r v =
+      let n = refuses r in
       let b = judged_number 1 3 v refl n in
-      subst (λ k. CoreAs file table words room (record { contents = k; from = 0; text = 0; count = 0; good = false }) table words) (sym e) (record {
+      record {
         here = record {
           verdict = judged_stop (sound_checks file (sizes_of file)) v n;
           character = record { unread = λ e. absurd (omega (arith, b.1)); other = λ _. refl };
@@ -33,37 +40,56 @@ module _ (file table words : List ℕ) (room : ℕ) {s : Answer} (v : Judged (sh
           table = left_same b.0 b.1;
           words = left_same b.0 b.1;
         };
-        fits = omega arith;
-        hands = record {
-          nothing = λ _ _. refl;
-          zeros = λ h. absurd (omega (arith, b.1));
-          all = λ h. absurd (n h);
-          places = λ h. absurd (omega arith);
-        };
-      })
+        ready = record { none = λ _. refl; all = λ h. absurd (omega (arith, b.1)); fits = omega arith };
+      }
 
-  -- refused by 4 to 13, or read
-  module _ (e : s.number ≡ 0) {r : Core} {t w : List ℕ} where
-    late_at : Laid file (sizes_of file) → SoundAs file (sizes_of file) table words r.contents.answer t w → OutcomeAs file (sizes_of file) r.contents.answer r → CoreAs file table words room r t w
-    late_at l u o =
+  module _ {s : Answer} (v : Judged (shape_checks file (length table) (length words) room) Passed s) (e : s.number ≡ 0) where
+    fits : (sizes_of file).evolutions ≤ room
+    fits = roomy (judged_passes 3 v refl e).1.1.1.1.0
+
+    -- refused by 4 to 13
+    pub late : {k : ℕ} {t w : List ℕ} (r : Refusal) → SoundAs file (sizes_of file) table words (refused_by r) t w → CharacterFor file (sizes_of file) (refused_by r) k
+        → CoreAs file table words room (Err (record { refusal = r; character = k; blanks = (sizes_of file).evolutions })) t w
+    late r u c =
+        let n = refuses r in
+        record {
+          here = record { verdict = judged_on 3 v refl e u.judged; character = c; refused = λ _. refl; done = λ h. absurd (n h); table = u.table; words = u.words };
+          ready = record { none = λ h. absurd (omega (arith, (judged_number 4 13 u.judged refl n).0)); all = λ _. refl; fits = fits };
+        }
+
+    -- read
+    pub good : {t w : List ℕ} (r : Reading) → r.specification.file.now ≡ file → r.specification.z ≡ sizes_of file → FrameOf file (sizes_of file) r.frame
+        → SoundAs file (sizes_of file) table words (record { number = 0; place = 0 }) t w → CoreAs file table words room (Ok r) t w
+    good r f z x u =
         record {
           here = record {
             verdict = judged_on 3 v refl e u.judged;
-            character = o.character;
-            refused = λ n. (o.refused n).0;
-            done = λ n. (o.done n).0;
+            character = record { unread = λ h. absurd (omega arith); other = λ _. refl };
+            refused = λ n. absurd (n refl);
+            done = λ _. record { outputs = ap (λ z. z.outputs) z; evolutions = ap (λ z. z.evolutions) z; frame = x };
             table = u.table;
             words = u.words;
           };
-          fits = omega (arith, o.count, roomy (judged_passes 3 v refl e).1.1.1.1.0);
-          hands = record {
-            nothing = λ h k. absurd (omega (arith, (judged_number 4 13 u.judged refl (λ z. omega arith)).0));
-            zeros = λ h. (o.count, (o.refused (λ z. omega arith)).1);
-            all = λ n. (o.count, (o.done n).1, o.from, o.text);
-            places = λ _. (l, o.count, o.from, o.text);
-          };
+          ready = record { of = f; fits = fits };
         }
 
-    pub late : {z : Sizes} {a : Answer} → WellFormed file × Sized file × (z ≡ sizes_of file) → SoundAs file z table words a t w → OutcomeAs file z a r → CoreAs file table words room r t w
-    late s u o =
-        late_at (laid file s.0 s.1) (subst₂ (λ z a. SoundAs file z table words a t w) s.2 (sym o.answer) u) (subst₂ (λ z a. OutcomeAs file z a r) s.2 (sym o.answer) o)
+    -- by the file and the sizes that were read
+    module _ {f : List ℕ} {z : Sizes} (fe : f ≡ file) (ze : z ≡ sizes_of f) where
+      sizes_are : z ≡ sizes_of file
+      sizes_are = ze ∙ ap sizes_of fe
+
+      pub rooms : (couples z ≤ length table) × (z.states ≤ length words)
+      rooms = let p = judged_passes 3 v refl e in
+          (omega (arith, ap couples sizes_are, roomy p.1.1.0), omega (arith, ap (λ (z : Sizes). z.states) sizes_are, roomy p.1.1.1.0))
+
+      pub late_read : {k : ℕ} {t w : List ℕ} (r : Refusal) → SoundAs f z table words (refused_by r) t w → CharacterFor f z (refused_by r) k
+          → CoreAs file table words room (Err (record { refusal = r; character = k; blanks = z.evolutions })) t w
+      late_read {k} {t} {w} r =
+          subst₂ (λ f z. SoundAs f z table words (refused_by r) t w → CharacterFor f z (refused_by r) k → CoreAs file table words room (Err (record { refusal = r; character = k; blanks = z.evolutions })) t w)
+          (sym fe) (sym sizes_are) (late r)
+
+      pub good_read : {t w : List ℕ} (r : Reading) → r.specification.file.now ≡ f → r.specification.z ≡ z → FrameOf f z r.frame → SoundAs f z table words (record { number = 0; place = 0 }) t w
+          → CoreAs file table words room (Ok r) t w
+      good_read {t} {w} r rf rz =
+          subst₂ (λ f z. FrameOf f z r.frame → SoundAs f z table words (record { number = 0; place = 0 }) t w → CoreAs file table words room (Ok r) t w)
+          (sym fe) (sym sizes_are) (good r (rf ∙ fe) (rz ∙ sizes_are))

@@ -12,7 +12,7 @@ use lib.ListN.{length, set}
 use borrow.Author.Count.{below_more}
 use borrow.Author.Tests.{lt-ltb, le-ltb}
 use Rattle.verdict.specs.Buffers.{Filled}
-use Rattle.verdict.specs.Checks.{None}
+use Rattle.verdict.specs.Checks.{Nowhere}
 use Rattle.verdict.proofs.Fills.{filled_at, filled_more}
 use Rattle.machine.specs.Limits.{most_states}
 use Rattle.machine.specs.Couples.{Couple}
@@ -118,7 +118,7 @@ module _ (file : List ℕ) (z : Sizes) {s q : ℕ} (k : s < z.worded) (is : rule
   from = sym (rule_evolution file z q evolution) ∙ is
 
 -- such a rule does not lead to what stands where none holds, by checks 4 and 6
-pub leads_away : {file : List ℕ} {z : Sizes} {s q : ℕ} → z.states ≤ most_states → None (Own file z) → q < records z → rule_of file z q ≡ s → z.worded ≤ q → leads_to file z q < z.states
+pub leads_away : {file : List ℕ} {z : Sizes} {s q : ℕ} → z.states ≤ most_states → Nowhere (Own file z) → q < records z → rule_of file z q ≡ s → z.worded ≤ q → leads_to file z q < z.states
     → leads_to file z q ≡ rest_of z.worded s → ⊥
 leads_away {file} {z} {s} {q} few own b is w l e = ⊎_elim
     (λ k.

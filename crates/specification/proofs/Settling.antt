@@ -8,13 +8,11 @@ use native.Mathlib.Omega.{arith}
 use lib.ListN.{length, get_or}
 use lib.Arith.{digits_lt}
 use lib.Pow.{pow_pos}
-use Rattle.verdict.specs.Checks.{Decides, None, Finds, Judged, Passed}
+use Rattle.verdict.specs.Checks.{Decides, Nowhere, Judged, Passed}
 use Rattle.verdict.specs.Buffers.{Filled}
 use Rattle.verdict.specs.declared.Answer.{Answer}
-use Rattle.verdict.specs.declared.Found.{Found}
-use Rattle.verdict.specs.declared.Found.TheVariants.{Nothing}
 use Rattle.verdict.proofs.Order.{judged_passes, judged_row}
-use Rattle.verdict.proofs.Tests.{decides_is, decides_not, ◌also◌, found_none}
+use Rattle.verdict.proofs.Tests.{decides_is, decides_not, ◌also◌}
 use Rattle.machine.specs.Couples.{Couple}
 use Rattle.machine.specs.Moves.{table_moves, Stateless, SameWord, Start}
 use Rattle.machine.specs.Runs.{startable, machine_of, Starts}
@@ -34,7 +32,7 @@ use Rattle.specification.proofs.Firing.{leads_state, leads_evolution}
 
 module _ (file : List ℕ) (z : Sizes) where
   -- rules lead to states, by check 4
-  pub leads_below : None (Beyond file z) → (r : ℕ) → r < records z → leads_to file z r < z.states
+  pub leads_below : Nowhere (Beyond file z) → (r : ℕ) → r < records z → leads_to file z r < z.states
   leads_below n r h = ⊎_elim
       (λ l. omega (arith, leads_state file z r l))
       (λ k.
@@ -43,19 +41,19 @@ module _ (file : List ℕ) (z : Sizes) where
       (below_or r z.states)
 
   -- at most one rule holds, by check 8
-  pub same_rule : {m s v p : ℕ} → None (TwoRules file z m) → Couple z.states m s v p → (q r : ℕ) → Fires file z s v q → Fires file z s v r → q ≡ r
+  pub same_rule : {m s v p : ℕ} → Nowhere (TwoRules file z m) → Couple z.states m s v p → (q r : ℕ) → Fires file z s v q → Fires file z s v r → q ≡ r
   same_rule n k q r f g =
       let a : q < r → ⊥ = λ l. n.nowhere _ (record { couple = k; two = record { differ = l; one = f; other = g; low = _; high = _ }; s = _; v = _ }) in
       let b : r < q → ⊥ = λ l. n.nowhere _ (record { couple = k; two = record { differ = l; one = g; other = f; low = _; high = _ }; s = _; v = _ }) in
       omega arith
 
-  pub same_move : {m s v p x y : ℕ} → None (TwoRules file z m) → Couple z.states m s v p → Moves file z s v x → Moves file z s v y → x ≡ y
+  pub same_move : {m s v p x y : ℕ} → Nowhere (TwoRules file z m) → Couple z.states m s v p → Moves file z s v x → Moves file z s v y → x ≡ y
   same_move n k a b = sym a.leads ∙ ap (leads_to file z) (same_rule n k _ _ a.fires b.fires) ∙ b.leads
 
 -- rules that lead to states, no two of which hold at a couple, and the table of their moves
 pub record Ruled (file : List ℕ) (z : Sizes) (table : List ℕ) : Type 0 where
   pub leads : (r : ℕ) → r < records z → leads_to file z r < z.states
-  pub single : None (TwoRules file z (settings z))
+  pub single : Nowhere (TwoRules file z (settings z))
   pub moves : (p : ℕ) → p < couples z → MoveAt file z (settings z) p (get_or table p 0)
 
 -- the moves of such a table are those of the file
@@ -98,7 +96,7 @@ module _ {file : List ℕ} {z : Sizes} {table : List ℕ} (t : Ruled file z tabl
 pub record Settled (file : List ℕ) (z : Sizes) (table words : List ℕ) : Type 0 where
   pub laid : Laid file z
   pub leads : (r : ℕ) → r < records z → leads_to file z r < z.states
-  pub single : None (TwoRules file z (settings z))
+  pub single : Nowhere (TwoRules file z (settings z))
   pub noted : (p : ℕ) → p < couples z → Noted file z (settings z) p (get_or table p 0)
   pub named : (s : ℕ) → s < z.states → get_or words s 0 ≡ word file z s
 
@@ -109,14 +107,9 @@ tabled table l x h =
     subst (λ (f : Frame). Tabled (machine_of f table)) (sym (framed_is x))
     (record { sized = record { some_input = g.some_input; few_inputs = g.few_inputs; few_states = g.few_states; begins = g.begins }; long = h })
 
--- the scan's settings are those of the file
-pub scanned : {file : List ℕ} {z : Sizes} {m : ℕ} {a b : List ℕ} {x : Found} → m ≡ settings z → Finds (TwoRules file z m) x × Filled (z.states * m) (λ p y. x ≡ Nothing → Noted file z m p y) a b
-    → Finds (TwoRules file z (settings z)) x × Filled (couples z) (λ p y. x ≡ Nothing → Noted file z (settings z) p y) a b
-scanned {file} {z} {a = a} {b} {x} k f = subst (λ (m : ℕ). Finds (TwoRules file z m) x × Filled (z.states * m) (λ p y. x ≡ Nothing → Noted file z m p y) a b) k f
-
-pub settled : {file : List ℕ} {z : Sizes} {a b u w : List ℕ} {x : Found} → Laid file z → None (Beyond file z) → x ≡ Nothing
-    → Finds (TwoRules file z (settings z)) x × Filled (couples z) (λ p y. x ≡ Nothing → Noted file z (settings z) p y) a b → Filled z.states (λ s y. y ≡ word file z s) u w → Settled file z b w
-settled {file} {z} l n e f g = record { laid = l; leads = leads_below file z n; single = found_none f.0 e; noted = λ p h. f.1.needed p h e; named = g.needed }
+pub settled : {file : List ℕ} {z : Sizes} {a b u w : List ℕ} → Laid file z → Nowhere (Beyond file z) → Nowhere (TwoRules file z (settings z)) → Filled (couples z) (λ p y. Noted file z (settings z) p y) a b
+    → Filled z.states (λ s y. y ≡ word file z s) u w → Settled file z b w
+settled {file} {z} l n t f g = record { laid = l; leads = leads_below file z n; single = t; noted = λ p h. f.needed p h; named = g.needed }
 
 -- states with other words of the same numbers
 pub same_words : {u w : ℕ → ℕ} {states : ℕ} → ((s : ℕ) → s < states → u s ≡ w s) → (s : ℕ) → SameWord u states s → SameWord w states s
@@ -146,7 +139,7 @@ module _ {file : List ℕ} {z : Sizes} {table words : List ℕ} (t : Settled fil
       (blank_or p (couple_below k))
 
   -- where each couple has a rule the bytes are the moves
-  pub ruled : None (NoRule file z (settings z)) → Ruled file z table
+  pub ruled : Nowhere (NoRule file z (settings z)) → Ruled file z table
   ruled some =
       record {
         leads = t.leads;

@@ -1,3 +1,3 @@
 -- What proofs and private contracts cite, and no public promise.
-pub mod Filling
 pub mod Private
+pub mod Outcomes

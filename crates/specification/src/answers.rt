@@ -1,74 +1,60 @@
-// What reading a file answers and hands on: a refusal, or the sizes and the frame.
+// What reading a file comes to, and what C is answered of it.
 ghost use Rattle.std.specs.Prelude.{◌≡◌};
-ghost use Rattle.verdict.specs.Checks.{Passed, Judged};
-ghost use Rattle.specification.specs.Rules.{FrameOf};
-ghost use Rattle.specification.specs.Reading.{refusal_of};
-ghost use Rattle.specification.specs.inner.Private.{Laid, sound_checks, OutcomeAs};
+ghost use Rattle.specification.specs.inner.Outcomes.{read_of, refused_of};
 
 use crate::Contents;
-use crate::records::{Sizes, record_at, texts_sum};
-use crate::rules::character_of;
+use crate::specification::Specification;
 use machine::Frame;
 use sets::WORDS;
-use verdict::Answer;
+use verdict::{Answer, Refusal};
 
-// The answer, and what there is to hand on: so many evolutions, whose records begin at `from` and whose texts begin at `text`, or as
-// many zero records where the file is not good.
+// A file that is read, and its frame.
 #[derive(Clone, Copy)]
-pub(crate) struct Core {
-    pub contents: Contents,
-    pub from: usize,
-    pub text: usize,
-    pub count: usize,
-    pub good: bool,
+pub(crate) struct Reading<'a> {
+    pub specification: Specification<'a>,
+    pub frame: Frame,
 }
 
-pub(crate) fn refusal(a: Answer, character: usize) -> Contents
-    ensures { result ≡ refusal_of a character }
-{
-    Contents {
-        answer: a,
-        character: character,
-        outputs: 0,
-        evolutions: 0,
-        frame: Frame {
-            inputs: 0,
-            states: 0,
-            initial: 0,
-            never: [0; WORDS],
-            starts: [0; WORDS],
-        },
+// Why a file is not read, with 5 the character at which the condition does not read, else 0; and how many records become zero.
+#[derive(Clone, Copy)]
+pub(crate) struct Refused {
+    pub refusal: Refusal,
+    pub character: usize,
+    pub blanks: usize,
+}
+
+impl<'a> Reading<'a> {
+    // The sizes and the frame.
+    pub(crate) fn contents(self) -> Contents
+        ensures { result ≡ read_of self.entry }
+    {
+        Contents {
+            answer: Answer::default(),
+            character: 0,
+            outputs: self.specification.z.outputs,
+            evolutions: self.specification.z.evolutions,
+            frame: self.frame,
+        }
     }
 }
 
-// What is answered and handed on of a file that passes 1 to 3: its sizes, its frame and its evolutions where it is sound.
-pub(crate) fn outcome(file: &[u8], z: Sizes, frame: Frame, a: Answer) -> Core
-    requires { Laid file.now z × FrameOf file.now z frame × Judged (sound_checks file.now z) Passed a }
-    ensures { OutcomeAs file.now z a result }
-{
-    let from = record_at(z, z.states);
-    let text = record_at(z, z.states + z.evolutions) + texts_sum(file, z, z.states);
-    if a.number != 0 {
-        return Core {
-            contents: refusal(a, character_of(file, z, a)),
-            from: from,
-            text: text,
-            count: z.evolutions,
-            good: false,
-        };
-    }
-    let contents = Contents {
-        answer: a,
-        character: 0,
-        outputs: z.outputs,
-        evolutions: z.evolutions,
-        frame: frame,
-    };
-    Core {
-        contents: contents,
-        from: from,
-        text: text,
-        count: z.evolutions,
-        good: true,
+impl Refused {
+    // The refusal; the sizes and the sets are all zero.
+    pub(crate) fn contents(self) -> Contents
+        ensures { result ≡ refused_of self }
+    {
+        Contents {
+            answer: self.refusal.into(),
+            character: self.character,
+            outputs: 0,
+            evolutions: 0,
+            frame: Frame {
+                inputs: 0,
+                states: 0,
+                initial: 0,
+                never: [0; WORDS],
+                starts: [0; WORDS],
+            },
+        }
     }
 }

@@ -1,64 +1,53 @@
 // The evolutions handed on: the lent records are filled.
-ghost use Rattle.std.specs.Prelude.{◌≡◌, ◌++◌, ◌+◌, ◌*◌, ◌≤◌, ◌<◌, length, drop};
+ghost use Rattle.std.specs.Prelude.{◌≡◌, ◌++◌, ◌+◌, ◌≤◌, ◌<◌, length, drop, replicate};
+ghost use Rattle.evolutions.specs.Evolutions.{blank};
 ghost use Rattle.specification.specs.Limits.{most_bytes};
-ghost use Rattle.specification.specs.inner.Filling.{next_of, filling, Fillable};
+ghost use Rattle.specification.specs.Records.{records};
+ghost use Rattle.specification.specs.Evolutions.{evolutions};
+ghost use Rattle.specification.specs.inner.Private.{evolution_at};
 
-use basics::{narrow, wide};
+use crate::records::Records;
+use crate::specification::Specification;
 use evolutions::Evolution;
 
-// A record, and where the text of the next one starts.
-#[derive(Clone, Copy)]
-struct Next {
-    e: Evolution,
-    at: usize,
+// The first `count` records become zero; the others stay.
+pub(crate) fn blank(records: &mut [Evolution], count: usize)
+    requires { count ≤ length records.old }
+    ensures { records.new ≡ replicate count blank ++ drop count records.old }
+{
+    records[..count].fill(Evolution::default());
 }
 
-// Evolution i, its bytes counted from `from`, its text at `at`; a zero record where the file is refused.
-fn one(file: &[u8], from: usize, i: usize, at: usize, good: bool) -> Next
-    requires { (from + 3 * i + 2 < length file.now) × (length file.now ≤ most_bytes) × (at ≤ most_bytes) }
-    ensures { result ≡ next_of file.now from good i at }
-{
-    let p = from + 3 * i;
-    let source = file[p];
-    let target = file[p + 1];
-    let length = file[p + 2];
-    let next = at + wide(length);
-    if good {
-        let e = Evolution {
-            source: source,
-            target: target,
-            at: narrow(at),
-            length: length,
-        };
-        return Next { e: e, at: next };
+impl<'a> Records<'a> {
+    // The evolution with record r, its text at `at`.
+    fn evolution(self, r: usize, at: usize) -> Evolution
+        requires { (r < records self.z) × (at ≤ most_bytes) }
+        ensures { result ≡ evolution_at self.entry.file.now self.entry.z r at }
+    {
+        Evolution {
+            source: self.source(r),
+            target: self.target(r),
+            at: at as u16,
+            length: self.text_length(r),
+        }
     }
-    let e = Evolution {
-        source: 0,
-        target: 0,
-        at: 0,
-        length: 0,
-    };
-    Next { e: e, at: next }
 }
 
-// The first `count` records become the evolutions, or zero where the file is refused; the others stay.
-pub(crate) fn fill(
-    records: &mut [Evolution],
-    file: &[u8],
-    from: usize,
-    text: usize,
-    count: usize,
-    good: bool,
-)
-    requires { (count ≤ length records.old) × (0 < count → Fillable file.now from text count) }
-    ensures { records.new ≡ filling file.now from text good count ++ drop count records.old }
-{
-    let mut at = text;
-    let mut i = 0;
-    while i < count {
-        let n = one(file, from, i, at, good);
-        records[i] = n.e;
-        at = n.at;
-        i += 1;
+impl<'a> Specification<'a> {
+    // The first records become the evolutions; the others stay.
+    pub(crate) fn hand_on(self, records: &mut [Evolution])
+        requires { self.z.evolutions ≤ length records.old }
+        ensures { records.new ≡ evolutions self.entry.file.now self.entry.z self.entry.z.evolutions ++ drop self.entry.z.evolutions records.old }
+    {
+        let from = Records {
+            file: self.file,
+            z: self.z,
+        };
+        let states = self.z.states;
+        let mut at = from.at(states + self.z.evolutions) + from.texts_sum(states);
+        for (e, record) in records[..self.z.evolutions].iter_mut().enumerate() {
+            *record = from.evolution(states + e, at);
+            at += usize::from(from.text_length(states + e));
+        }
     }
 }

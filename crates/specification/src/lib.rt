@@ -11,8 +11,10 @@ mod handing;
 mod reading;
 mod records;
 mod rules;
+mod specification;
+mod texts;
 
-use crate::handing::fill;
+use crate::handing::blank;
 use crate::reading::read_core;
 use evolutions::Evolution;
 use machine::Frame;
@@ -30,7 +32,7 @@ const TEXT: usize = 255;
 // The answer, with 5 the character at which the condition does not read, else 0; and the sizes and frame of the file, all zero on
 // refusal. The frame goes to the table jobs as it is.
 #[repr(C)]
-#[derive(Clone, Copy)]
+#[derive(Clone, Copy, Debug, PartialEq, Eq)]
 pub struct Contents {
     pub answer: Answer,
     pub character: usize,
@@ -43,15 +45,24 @@ pub struct Contents {
 pub fn read(file: &[u8], table: &mut [u8], words: &mut [u16], records: &mut [Evolution]) -> Contents
     ensures { ReadAs file.now table.old words.old records.old result table.new words.new records.new }
 {
-    let core = read_core(file, table, words, records.len());
-    fill(records, file, core.from, core.text, core.count, core.good);
-    core.contents
+    match read_core(file, table, words, records.len()) {
+        Ok(reading) => {
+            reading.specification.hand_on(records);
+            reading.contents()
+        }
+        Err(refused) => {
+            blank(records, refused.blanks);
+            refused.contents()
+        }
+    }
 }
 
 // The same for a program that keeps no records, at room for as many as a file may have.
 pub fn read_here(file: &[u8], table: &mut [u8], words: &mut [u16]) -> Contents
     ensures { ReadHere file.now table.old words.old most_evolutions result table.new words.new }
 {
-    let core = read_core(file, table, words, EVOLUTIONS);
-    core.contents
+    match read_core(file, table, words, EVOLUTIONS) {
+        Ok(reading) => reading.contents(),
+        Err(refused) => refused.contents(),
+    }
 }

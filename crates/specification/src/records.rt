@@ -1,18 +1,14 @@
 // Sizes and records: refusals 2, 4, 6 and 7.
-ghost use Rattle.std.specs.Prelude.{◌≡◌, cond, ℕ, ◌+◌, ◌*◌, ◌<◌, ◌≤◌, ◌^◌, length, get_or};
+ghost use Rattle.std.specs.Prelude.{◌≡◌, ◌+◌, ◌<◌, ◌≤◌, ◌^◌};
 ghost use Rattle.verdict.specs.Checks.{Decides, Finds};
-ghost use Rattle.basics.specs.Words.{most_outputs};
-ghost use Rattle.specification.specs.Limits.{most_bytes, most_text};
-ghost use Rattle.specification.specs.File.{kinds, rests_of, Headed, WellFormed};
 ghost use Rattle.verdict.specs.Below.{sum_to};
-ghost use Rattle.specification.specs.Records.{couples as couplesOf, records, record_at, byte_of, word as word_of, source as source_of, target as target_of, text_length, sizes_of, Ranges, Sized};
-ghost use Rattle.specification.specs.inner.Private.{most_kinds, Decoded, Laid, Wrong};
+ghost use Rattle.specification.specs.Records.{records, record_at, word as word_of, source as source_of, target as target_of, text_length, sizes_of, Ranges, Beyond, Own, Twice};
+ghost use Rattle.specification.specs.inner.Private.{Inside};
 
-use crate::file::{Bodies, KINDS, has_rests, two_at};
-use crate::{EVOLUTIONS, TEXT};
-use basics::{OUTPUTS, wide};
-use machine::{INPUTS, STATES, settings};
-use verdict::Found;
+use crate::EVOLUTIONS;
+use crate::file::{Formed, Head, KINDS, has_rests, two_at};
+use basics::OUTPUTS;
+use machine::{INPUTS, STATES};
 
 // The sizes of a file, where its records begin, how many bodies there are beyond kind 4, and the first record that has a condition.
 #[derive(Clone, Copy)]
@@ -27,246 +23,160 @@ pub(crate) struct Sizes {
     pub worded: usize,
 }
 
-// The checks of single records: refusals 4, 6 and 7.
+// A file whose records lie in it, and its sizes, which are in their ranges.
 #[derive(Clone, Copy)]
-pub(crate) enum RecordCheck {
-    Beyond,
-    Own,
-    Twice,
+pub(crate) struct Records<'a> {
+    pub file: &'a [u8],
+    pub z: Sizes,
+    pub ghost inside: { Inside file.now z },
 }
 
-// The first record that has a condition: the first state's, or in a file without rest conditions the first evolution's.
-fn worded_of(file: &[u8], states: usize) -> usize
-    requires { Headed file.now }
-    ensures { result ≡ cond (rests_of file.now) 0 states }
-{
-    if has_rests(file) {
-        return 0;
-    }
-    states
-}
-
-pub(crate) fn sizes_of(file: &[u8], b: Bodies) -> Sizes
-    requires { WellFormed file.now × Decoded file.now b }
-    ensures { result ≡ sizes_of file.now }
-{
-    let at = b.at[0];
-    let states = wide(file[at + 2]);
-    Sizes {
-        inputs: wide(file[at]),
-        outputs: wide(file[at + 1]),
-        states: states,
-        initial: wide(file[at + 3]),
-        evolutions: b.length[2] / 3,
-        first: b.at[1],
-        more: b.count - KINDS,
-        worded: worded_of(file, states),
+impl Sizes {
+    // Whether each size is in its range.
+    pub(crate) fn in_range(self) -> bool
+        ensures { Decides (Ranges self) result }
+    {
+        (1..=INPUTS).contains(&self.inputs)
+            && (1..=OUTPUTS).contains(&self.outputs)
+            && (1..=STATES).contains(&self.states)
+            && self.initial < self.states
+            && self.evolutions <= EVOLUTIONS
     }
 }
 
-pub(crate) fn couples(z: Sizes) -> usize
-    requires { Ranges z }
-    ensures { result ≡ couplesOf z }
-{
-    z.states * settings(z.inputs)
-}
-
-// Where record r begins.
-pub(crate) fn record_at(z: Sizes, r: usize) -> usize
-    requires { record_at z r ≤ most_bytes }
-    ensures { result ≡ record_at z r }
-{
-    z.first + 3 * r
-}
-
-// Byte k of record r.
-fn byte_of(file: &[u8], z: Sizes, r: usize, k: usize) -> usize
-    requires { (record_at z r + k < length file.now) × (length file.now ≤ most_bytes) }
-    ensures { (result ≡ byte_of file.now z r k) × (result < 2 ^ 8) }
-{
-    wide(file[record_at(z, r) + k])
-}
-
-// The output word of the state with record r.
-pub(crate) fn word(file: &[u8], z: Sizes, r: usize) -> usize
-    requires { (record_at z r + 2 < length file.now) × (length file.now ≤ most_bytes) }
-    ensures { (result ≡ word_of file.now z r) × (result < 2 ^ 16) }
-{
-    two_at(file, record_at(z, r))
-}
-
-// The source of the evolution with record r.
-pub(crate) fn source(file: &[u8], z: Sizes, r: usize) -> usize
-    requires { (record_at z r + 2 < length file.now) × (length file.now ≤ most_bytes) }
-    ensures { (result ≡ source_of file.now z r) × (result < 2 ^ 8) }
-{
-    byte_of(file, z, r, 0)
-}
-
-// The target of the evolution with record r.
-pub(crate) fn target(file: &[u8], z: Sizes, r: usize) -> usize
-    requires { (record_at z r + 2 < length file.now) × (length file.now ≤ most_bytes) }
-    ensures { (result ≡ target_of file.now z r) × (result < 2 ^ 8) }
-{
-    byte_of(file, z, r, 1)
-}
-
-// The length of the condition of record r.
-pub(crate) fn text_length(file: &[u8], z: Sizes, r: usize) -> usize
-    requires { (record_at z r + 2 < length file.now) × (length file.now ≤ most_bytes) }
-    ensures { (result ≡ text_length file.now z r) × (result < 2 ^ 8) }
-{
-    byte_of(file, z, r, 2)
-}
-
-// The lengths of the conditions of the first records, summed.
-pub(crate) fn texts_sum(file: &[u8], z: Sizes, count: usize) -> usize
-    requires { (record_at z count ≤ length file.now) × (length file.now ≤ most_bytes) }
-    ensures { result ≡ sum_to (text_length file.now z) count }
-{
-    let mut sum: usize = 0;
-    for r in 0..count {
-        sum = sum + text_length(file, z, r);
-    }
-    sum
-}
-
-// Whether 1 <= x <= most.
-fn between(x: usize, most: usize) -> bool
-    ensures { Decides ((1 ≤ x) × (x ≤ most)) result }
-{
-    if x < 1 {
-        return false;
-    }
-    x <= most
-}
-
-// Whether each size is in its range.
-fn in_range(z: Sizes) -> bool
-    ensures { Decides (Ranges z) result }
-{
-    if !between(z.inputs, INPUTS) {
-        return false;
-    }
-    if !between(z.outputs, OUTPUTS) {
-        return false;
-    }
-    if !between(z.states, STATES) {
-        return false;
-    }
-    if z.states <= z.initial {
-        return false;
-    }
-    z.evolutions <= EVOLUTIONS
-}
-
-// Whether the bodies beyond kind 4 have no more bytes than a condition may have.
-fn bodies_fit(b: Bodies) -> bool
-    requires { b.count ≤ most_kinds }
-    ensures { Decides ((k : ℕ) → kinds ≤ k → k < b.count → get_or b.length k 0 ≤ most_text) result }
-{
-    for k in KINDS..b.count {
-        if TEXT < b.length[k] {
-            return false;
+impl<'a> Formed<'a> {
+    pub(crate) fn sizes(self) -> Sizes
+        ensures { result ≡ sizes_of self.entry.file.now }
+    {
+        let head = Head { file: self.file };
+        let at = head.offset(0);
+        let states = usize::from(self.file[at + 2]);
+        Sizes {
+            inputs: usize::from(self.file[at]),
+            outputs: usize::from(self.file[at + 1]),
+            states,
+            initial: usize::from(self.file[at + 3]),
+            evolutions: head.length(2) / 3,
+            first: head.offset(1),
+            more: head.count() - KINDS,
+            worded: if has_rests(self.file) { 0 } else { states },
         }
     }
-    true
 }
 
-// Whether refusal 2 does not apply.
-pub(crate) fn sized(file: &[u8], b: Bodies, z: Sizes) -> bool
-    requires { WellFormed file.now × Decoded file.now b × (z ≡ sizes_of file.now) }
-    ensures { Decides (Sized file.now) result }
-{
-    if !in_range(z) {
-        return false;
+impl<'a> Records<'a> {
+    // How many records there are.
+    pub(crate) fn count(self) -> usize
+        ensures { result ≡ records self.entry.z }
+    {
+        self.z.states + self.z.evolutions
     }
-    if b.length[1] != 3 * z.states {
-        return false;
-    }
-    if texts_sum(file, z, z.worded) != 0 {
-        return false;
-    }
-    if texts_sum(file, z, z.states + z.evolutions) != b.length[3] {
-        return false;
-    }
-    bodies_fit(b)
-}
 
-// Whether a word has a bit beyond the outputs.
-fn overflows(word: usize, outputs: usize) -> bool
-    requires { outputs ≤ most_outputs }
-    ensures { Decides (2 ^ outputs ≤ word) result }
-{
-    1 << outputs <= word
-}
+    // Where record r begins, or the last one ends.
+    pub(crate) fn at(self, r: usize) -> usize
+        requires { r ≤ records self.z }
+        ensures { result ≡ record_at self.entry.z r }
+    {
+        self.z.first + 3 * r
+    }
 
-// Refusal 4 at a record.
-fn beyond(file: &[u8], z: Sizes, r: usize) -> bool
-    requires { Laid file.now z × (r < records z) }
-    ensures { Decides (Wrong file.now z RecordCheck.Beyond r) result }
-{
-    if r < z.states {
-        return overflows(word(file, z, r), z.outputs);
+    // The output word of the state with record r.
+    pub(crate) fn word(self, r: usize) -> u16
+        requires { r < records self.z }
+        ensures { result ≡ word_of self.entry.file.now self.entry.z r }
+    {
+        two_at(self.file, self.at(r))
     }
-    if z.states <= source(file, z, r) {
-        return true;
-    }
-    z.states <= target(file, z, r)
-}
 
-// Refusal 6 at a record.
-fn own(file: &[u8], z: Sizes, r: usize) -> bool
-    requires { Laid file.now z × (r < records z) }
-    ensures { Decides (Wrong file.now z RecordCheck.Own r) result }
-{
-    if r < z.states {
-        return false;
+    // The source of the evolution with record r.
+    pub(crate) fn source(self, r: usize) -> u8
+        requires { r < records self.z }
+        ensures { result ≡ source_of self.entry.file.now self.entry.z r }
+    {
+        self.file[self.at(r)]
     }
-    target(file, z, r) == source(file, z, r)
-}
 
-// Refusal 7 at a record.
-fn twice(file: &[u8], z: Sizes, r: usize) -> bool
-    requires { Laid file.now z × (r < records z) }
-    ensures { Decides (Wrong file.now z RecordCheck.Twice r) result }
-{
-    if r < z.states {
-        return false;
+    // The target of the evolution with record r.
+    pub(crate) fn target(self, r: usize) -> u8
+        requires { r < records self.z }
+        ensures { result ≡ target_of self.entry.file.now self.entry.z r }
+    {
+        self.file[self.at(r) + 1]
     }
-    let from = source(file, z, r);
-    let to = target(file, z, r);
-    for q in z.states..r {
-        if source(file, z, q) == from {
-            if target(file, z, q) == to {
-                return true;
-            }
+
+    // The length of the condition of record r.
+    pub(crate) fn text_length(self, r: usize) -> u8
+        requires { r < records self.z }
+        ensures { result ≡ text_length self.entry.file.now self.entry.z r }
+    {
+        self.file[self.at(r) + 2]
+    }
+
+    // The lengths of the conditions of the first records, summed.
+    pub(crate) fn texts_sum(self, count: usize) -> usize
+        requires { count ≤ records self.z }
+        ensures { result ≡ sum_to (text_length self.entry.file.now self.entry.z) count }
+    {
+        let mut sum = 0;
+        for r in 0..count {
+            sum += usize::from(self.text_length(r));
         }
+        sum
     }
-    false
-}
 
-fn wrong(file: &[u8], z: Sizes, check: RecordCheck, r: usize) -> bool
-    requires { Laid file.now z × (r < records z) }
-    ensures { Decides (Wrong file.now z check r) result }
-{
-    match check {
-        RecordCheck::Beyond => beyond(file, z, r),
-        RecordCheck::Own => own(file, z, r),
-        RecordCheck::Twice => twice(file, z, r),
-    }
-}
-
-// The first record at which a check fails.
-pub(crate) fn first_wrong(file: &[u8], z: Sizes, check: RecordCheck) -> Found
-    requires { Laid file.now z }
-    ensures { Finds (Wrong file.now z check) result }
-{
-    let count = z.states + z.evolutions;
-    for r in 0..count {
-        if wrong(file, z, check, r) {
-            return Found::At(r);
+    // Refusal 4 at a record.
+    fn beyond(self, r: usize) -> bool
+        requires { r < records self.z }
+        ensures { Decides (Beyond self.entry.file.now self.entry.z r) result }
+    {
+        if r < self.z.states {
+            return 1 << self.z.outputs <= usize::from(self.word(r));
         }
+        self.z.states <= usize::from(self.source(r)) || self.z.states <= usize::from(self.target(r))
     }
-    Found::Nothing
+
+    // Refusal 6 at a record.
+    fn own(self, r: usize) -> bool
+        requires { r < records self.z }
+        ensures { Decides (Own self.entry.file.now self.entry.z r) result }
+    {
+        self.z.states <= r && self.target(r) == self.source(r)
+    }
+
+    // Whether record q has the source and target of record r.
+    fn same(self, q: usize, r: usize) -> bool
+        requires { (q < records self.z) × (r < records self.z) }
+        ensures { Decides ((source_of self.entry.file.now self.entry.z q ≡ source_of self.entry.file.now self.entry.z r) × (target_of self.entry.file.now self.entry.z q ≡ target_of self.entry.file.now self.entry.z r)) result }
+    {
+        self.source(q) == self.source(r) && self.target(q) == self.target(r)
+    }
+
+    // Refusal 7 at a record.
+    fn twice(self, r: usize) -> bool
+        requires { r < records self.z }
+        ensures { Decides (Twice self.entry.file.now self.entry.z r) result }
+    {
+        (self.z.states..r).any(|q| self.same(q, r))
+    }
+
+    // Refusal 4: the first record beyond the outputs or the states.
+    pub(crate) fn first_beyond(self) -> Option<usize>
+        ensures { Finds (Beyond self.entry.file.now self.entry.z) result }
+    {
+        (0..self.count()).find(|&r| self.beyond(r))
+    }
+
+    // Refusal 6: the first evolution to its own source.
+    pub(crate) fn first_own(self) -> Option<usize>
+        ensures { Finds (Own self.entry.file.now self.entry.z) result }
+    {
+        (0..self.count()).find(|&r| self.own(r))
+    }
+
+    // Refusal 7: the first evolution with the source and target of an earlier one.
+    pub(crate) fn first_twice(self) -> Option<usize>
+        ensures { Finds (Twice self.entry.file.now self.entry.z) result }
+    {
+        (0..self.count()).find(|&r| self.twice(r))
+    }
 }

@@ -6,7 +6,7 @@ use Prim.Native.Nat.{ℕ, ◌<◌}
 use lib.ListN.{take}
 use mathlib.Core.Bool.{true}
 use Rattle.condition.specs.Grammar.{condition, Tree}
-use Rattle.verdict.specs.Checks.{check, None, Unless, Passed, Judged}
+use Rattle.verdict.specs.Checks.{check, Nowhere, Unless, Passed, Judged}
 use Rattle.verdict.proofs.Tests.{meets, whole}
 use Rattle.verdict.proofs.Order.{pass, halt, ends, long}
 use Rattle.machine.specs.Moves.{table_moves, Transient, SameWord, Reached, Start}
@@ -24,10 +24,10 @@ use Rattle.starred.proofs.Rules.{spelling, none_unread, Ruled}
 pub record Shaped (file : List ℕ) : Type 0 where
   pub formed : WellFormed file
   pub sized : Sized file
-  pub inside : None (Beyond file (sizes_of file))
-  pub read : None (Unreads file (sizes_of file))
-  pub changes : None (Own file (sizes_of file))
-  pub once : None (Twice file (sizes_of file))
+  pub inside : Nowhere (Beyond file (sizes_of file))
+  pub read : Nowhere (Unreads file (sizes_of file))
+  pub changes : Nowhere (Own file (sizes_of file))
+  pub once : Nowhere (Twice file (sizes_of file))
 
 -- by computation, where the tree of each text is given
 pub shape : (file : List ℕ) (trees : List (Tree condition)) → spelling file trees ≡ true → take 4 file ≡ mark (rests_of file)
@@ -43,9 +43,9 @@ module _ {file : List ℕ} (x : Shaped file) where
       (pass x.inside (pass x.read (pass x.changes (pass x.once v))))))))
 
   module _ {T : List ℕ} (starts : ℕ) (ok : Sound (machine_of (free (sizes_of file).inputs (sizes_of file).states (sizes_of file).initial starts) T)) (rules : Ruled file T)
-      (same : None (SameWord (word file (sizes_of file)) (sizes_of file).states))
+      (same : Nowhere (SameWord (word file (sizes_of file)) (sizes_of file).states))
       (reached : (s : ℕ) → s < (sizes_of file).states → Reached (table_moves T (settings (sizes_of file))) (settings (sizes_of file)) (sizes_of file).initial s) where
-    calm : None (Transient (Moves file (sizes_of file)) (sizes_of file).states (settings (sizes_of file)))
+    calm : Nowhere (Transient (Moves file (sizes_of file)) (sizes_of file).states (settings (sizes_of file)))
     calm = record {
       nowhere = λ p f.
           let y = transient_into rules.into rules.from p f in

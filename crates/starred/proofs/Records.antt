@@ -7,7 +7,7 @@ use Prim.Native.Nat.{ℕ, suc, ◌+◌, ◌*◌, ◌-◌, ◌%◌, ◌^◌, ◌�
 use native.Mathlib.Omega.{arith}
 use lib.ListN.{length, take}
 use lib.Dec.{eqb, leb, ltb}
-use Rattle.verdict.specs.Checks.{Decides, None}
+use Rattle.verdict.specs.Checks.{Decides, Nowhere}
 use Rattle.machine.specs.Limits.{most_inputs, most_states}
 use Rattle.machine.specs.Moves.{SameWord}
 use Rattle.verdict.proofs.Tests.{decides_at_most, decides_equal, decides_below, decides_not, decides_either, ◌also◌}
@@ -139,7 +139,7 @@ module _ (file : List ℕ) where
   never words sources targets r (source_beyond x l) = omega (arith, evolution x (sources r x.below))
   never words sources targets r (target_beyond x l) = omega (arith, evolution x (targets r x.below))
 
-  pub record_checks_lem : recorded ≡ true → None (Beyond file (sizes_of file)) × None (Own file (sizes_of file)) × None (Twice file (sizes_of file))
+  pub record_checks_lem : recorded ≡ true → Nowhere (Beyond file (sizes_of file)) × Nowhere (Own file (sizes_of file)) × Nowhere (Twice file (sizes_of file))
   record_checks_lem e =
       let x =
       (decides_states (λ r. word file (sizes_of file) r < 2 ^ (sizes_of file).outputs) (λ r. decides_below _ _)
@@ -153,7 +153,7 @@ module _ (file : List ℕ) where
       )
 
   -- refusal 11
-  pub none_same : of_states (λ s. every s (λ q. not (eqb (word file (sizes_of file) q) (word file (sizes_of file) s)))) ≡ true → None (SameWord (word file (sizes_of file)) (sizes_of file).states)
+  pub none_same : of_states (λ s. every s (λ q. not (eqb (word file (sizes_of file) q) (word file (sizes_of file) s)))) ≡ true → Nowhere (SameWord (word file (sizes_of file)) (sizes_of file).states)
   none_same e =
       let x = (decides_states (λ s. (q : ℕ) → q < s → word file (sizes_of file) q ≡ word file (sizes_of file) s → ⊥) (λ s. decides_every s _ _ (λ q. decides_not (decides_equal _ _)))).holds e in
       record { nowhere = λ s f. x s f.state f.earlier f.before f.same }

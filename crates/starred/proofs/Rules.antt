@@ -9,7 +9,7 @@ use lib.ListN.{get_or}
 use lib.Dec.{eqb, leb, ltb}
 use lib.Arith.{digits_div, digits_mod}
 use borrow.Author.Tests.{eqb-true, eq-eqb, leb-true, ltb-true}
-use Rattle.verdict.specs.Checks.{Decides, None}
+use Rattle.verdict.specs.Checks.{Decides, Nowhere}
 use Rattle.condition.specs.Grammar.{Level, condition, Tree, one, more, bang, paren, off, on, input, text, opened, Below, holds}
 use Rattle.condition.specs.Condition.{parentheses, Reads}
 use Rattle.condition.proofs.Trees.{one_tree}
@@ -78,8 +78,8 @@ letters_below_lem n (input k) e = let (f, g) = both (ltb k n) (ltb k most_inputs
 
 -- at each couple of a file one rule holds, and leads to the state that a table has there
 pub record Ruled (file T : List ℕ) : Type 0 where
-  pub once : None (TwoRules file (sizes_of file) (settings (sizes_of file)))
-  pub always : None (NoRule file (sizes_of file) (settings (sizes_of file)))
+  pub once : Nowhere (TwoRules file (sizes_of file) (settings (sizes_of file)))
+  pub always : Nowhere (NoRule file (sizes_of file) (settings (sizes_of file)))
   pub moves : (p : ℕ) → p < couples (sizes_of file) → MoveAt file (sizes_of file) (settings (sizes_of file)) p (get_or T p 0)
   pub into : Into (sizes_of file).states (settings (sizes_of file)) (Moves file (sizes_of file)) (table_moves T (settings (sizes_of file)))
   pub from : Into (sizes_of file).states (settings (sizes_of file)) (table_moves T (settings (sizes_of file))) (Moves file (sizes_of file))
@@ -118,7 +118,7 @@ module _ (file : List ℕ) where
       reads r h = reads_as r (omega arith) (condition_record file (sizes_of file) r h)
 
       -- refusal 5
-      pub none_unread : None (Unreads file (sizes_of file))
+      pub none_unread : Nowhere (Unreads file (sizes_of file))
       none_unread = record { nowhere = λ r x. x.unread (reads_as r x.below refl) }
 
       decides_fires : (s v r : ℕ) → r < records (sizes_of file) → Decides (Fires file (sizes_of file) s v r) (firing s v r)

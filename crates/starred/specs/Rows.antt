@@ -1,10 +1,9 @@
 -- Document 01's starred rows ("Examples on both sides"), in its order, and document 02's of ticket 5, as one table. Assumes nothing:
 -- these are definitions.
-use Rattle.std.specs.Prelude.{◌≡◌, true, false, List, [], ◌∷◌, ℕ, ◌-◌, ◌^◌, ◌≤◌, get_or, replicate}
+use Rattle.std.specs.Prelude.{Ok, ◌≡◌, true, false, List, [], ◌∷◌, ℕ, ◌-◌, ◌^◌, ◌≤◌, get_or, replicate}
 use Rattle.basics.specs.Texts.{letters}
 use Rattle.verdict.specs.Checks.{Passed, Judged}
 use Rattle.condition.specs.Condition.{Says}
-use Rattle.condition.specs.declared.Meaning.TheVariants.{Is}
 use Rattle.sets.specs.Sets.{words}
 use Rattle.machine.specs.declared.Frame.{Frame}
 use Rattle.machine.specs.Runs.{Machine, machine_of, couples, RanksOf}
@@ -68,9 +67,9 @@ pub record Rows : Type 0 where
   -- gate, couple 19: 15
   pub gate_unmarked : RunRefused gate 19 15 0
   -- `a+b.c` at setting 1 (only a on): holds
-  pub and_before_or : Says 3 1 (letters "a+b.c") (Is true)
+  pub and_before_or : Says 3 1 (letters "a+b.c") (Ok true)
   -- `!a.b` at setting 0: does not hold
-  pub not_before_and : Says 2 0 (letters "!a.b") (Is false)
+  pub not_before_and : Says 2 0 (letters "!a.b") (Ok false)
   -- lamp with `1` as the rest of state 0: 8, place 1
   pub two_rules : Answered two_rules_file 8 1
   -- the gate without kind 6: 13

@@ -17,8 +17,8 @@ use Rattle.machine.specs.declared.Frame.{Frame}
 use Rattle.machine.proofs.Couples.{settings_bound}
 use Rattle.machine.proofs.Sizes.{settings_are, sizes, couples_few}
 use Rattle.machine.proofs.Soundness.{sound_machine}
-use Rattle.tables.specs.Tables.{Tabled, size_checks, move_checks, moves_at, table_checks}
-use Rattle.tables.specs.inner.Fits.{Small, Fit, Checked}
+use Rattle.tables.specs.Tables.{Tabled, size_checks, move_checks, moves_at, table_checks, Checked}
+use Rattle.tables.specs.inner.Fits.{Small, Fit}
 use Rattle.tables.proofs.Transients.{all_states}
 
 -- the sizes of a table within their ranges, at z settings
@@ -46,6 +46,10 @@ module _ (m : Machine) where
 
   pub checked : Passes (table_checks m) → Checked m
   checked p = move_passed (size_passed (p.0, (p.1.0, tt))) p.1.1
+
+  -- a table of states, with an initial one
+  pub fit : Checked m → Fit m.table m.states (size m) m.initial
+  fit c = record { small = small c.tabled.sized (λ _. refl); begins = c.tabled.sized.begins; long = c.tabled.long; inside = c.sound.closed }
 
 -- and back; and the table reaches at z settings
 module _ {m : Machine} where

@@ -8,7 +8,7 @@ use Rattle.verdict.specs.declared.Answer.{Answer}
 use Rattle.verdict.proofs.Order.{judged_unique}
 use Rattle.verdict.proofs.Tests.{decides_unique}
 use Rattle.machine.specs.Runs.{Machine, Starts}
-use Rattle.tables.specs.Tables.{Tabled, table_checks, sound_checks}
+use Rattle.tables.specs.Tables.{Tabled, size_checks, table_checks, sound_checks}
 
 module _ (m : Machine) where
   pub tabled_only : (r s : Bool) → Decides (Tabled m) r → Decides (Tabled m) s → r ≡ s
@@ -19,6 +19,9 @@ module _ (m : Machine) where
 
   pub started_only : (r s : Bool) → Decides (Tabled m × ((v : ℕ) × Starts m v)) r → Decides (Tabled m × ((v : ℕ) × Starts m v)) s → r ≡ s
   started_only r s = decides_unique _ r s
+
+  pub check_sizes_only : {a b : Answer} → Judged (size_checks m) Passed a → Judged (size_checks m) Passed b → a ≡ b
+  check_sizes_only v w = judged_unique v w
 
   pub check_table_only : {a b : Answer} → Judged (table_checks m) Passed a → Judged (table_checks m) Passed b → a ≡ b
   check_table_only v w = judged_unique v w

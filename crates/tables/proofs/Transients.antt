@@ -7,9 +7,11 @@ use native.Mathlib.Nat.{div-add-mod'}
 use lib.ListN.{get_or}
 use lib.Arith.{digits_mod}
 use mathlib.Core.Logic.{⊎_elim}
-use Rattle.verdict.specs.Checks.{None}
+use Rattle.std.specs.Prelude.{Option}
+use Rattle.verdict.specs.Checks.{Nowhere, Finds}
+use Rattle.verdict.proofs.Tests.{finds_map}
 use Rattle.machine.specs.Moves.{table_moves, Stateless, Transient}
-use Rattle.machine.proofs.Couples.{couple_of, some_setting}
+use Rattle.machine.proofs.Couples.{couple_of, couple_below, some_setting}
 use Rattle.machine.proofs.Order.{below_or}
 
 module _ (T : List ℕ) {m states p : ℕ} where
@@ -28,8 +30,12 @@ module _ (T : List ℕ) {m states p : ℕ} where
 pub stateless_at : (T : List ℕ) {states m p : ℕ} → p < states * m → states ≤ get_or T p 0 → Stateless T states m p
 stateless_at T {states} {m} {p} h b = record { s = p / m; v = p % m; couple = couple_of p (some_setting states m p h) h; beyond = b }
 
+-- a search for elements beyond the states is one for refusal 4
+pub stateless_finds : (T : List ℕ) (states m : ℕ) (x : Option ℕ) → Finds (λ c. (c < states * m) × (states ≤ get_or T c 0)) x → Finds (Stateless T states m) x
+stateless_finds T states m x = finds_map _ (Stateless T states m) x (λ p f. stateless_at T f.0 f.1) (λ p s. (couple_below s.couple, s.beyond))
+
 -- a table that fails check 4 nowhere holds a state at each couple
-pub all_states : (T : List ℕ) (states m : ℕ) → None (Stateless T states m) → (p : ℕ) → p < states * m → get_or T p 0 < states
+pub all_states : (T : List ℕ) (states m : ℕ) → Nowhere (Stateless T states m) → (p : ℕ) → p < states * m → get_or T p 0 < states
 all_states T states m n p h = ⊎_elim
     (λ l. l)
     (λ l. absurd (n.nowhere p (stateless_at T h l)))

@@ -3,12 +3,22 @@ use Rattle.std.specs.Prelude.{List, [], ◌∷◌, ◌++◌, ℕ, ◌≤◌, len
 use Rattle.verdict.specs.Checks.{Check, check, Unless, Short}
 use Rattle.machine.specs.Limits.{Sized}
 use Rattle.machine.specs.Moves.{table_moves, Stateless, Transient, SameWord, Unreached}
-use Rattle.machine.specs.Runs.{Machine, size, couples, Starts}
+use Rattle.machine.specs.Runs.{Machine, machine_by, size, couples, Sound, Starts}
+use Rattle.tables.specs.declared.Job.{Job}
+
+-- the machine of what a table job is handed
+abbrev pub machine_in : Job → Machine
+machine_in job = machine_by job.several job.frame job.table.now
 
 -- refusals 2 and 3 do not apply: the sizes are in their ranges, and the table has an element for each couple
 pub record Tabled (m : Machine) : Type 0 where
   pub sized : Sized m.inputs m.states m.initial
   pub long : couples m ≤ length m.table
+
+-- refusals 2, 3, 4 and 10 do not apply
+pub record Checked (m : Machine) : Type 0 where
+  pub tabled : Tabled m
+  pub sound : Sound m
 
 -- refusals 2 and 3 of a table
 abbrev pub size_checks : Machine → List Check

@@ -1,138 +1,106 @@
 // The checks of a lent table (document 01, "Refusals by number"): one gate for every job that is handed one.
 #![tactic(auto)]
 
-ghost use Rattle.std.specs.Prelude.{◌≡◌, ℕ, ◌≤◌, ◌^◌, length};
+ghost use Rattle.std.specs.Prelude.{◌≡◌, true, false, ℕ, IfOk};
 ghost use Rattle.verdict.specs.Checks.{Decides, Passed, Judged};
-ghost use Rattle.machine.specs.Runs.{machine_of, Starts};
-ghost use Rattle.tables.specs.Tables.{Tabled, size_checks, table_checks, state_checks, sound_checks};
-ghost use Rattle.tables.specs.inner.Fits.{Fit};
+ghost use Rattle.verdict.specs.Refusals.{verdict_of};
+ghost use Rattle.machine.specs.Runs.{machine_of, machine_by, Starts};
+ghost use Rattle.tables.specs.Tables.{machine_in, Tabled, size_checks, table_checks, sound_checks};
 
-use crate::couples::check_moves;
-use crate::states::{first_same, first_unreached};
-use basics::wide;
-use machine::{Frame, settings, sized, startable};
-use verdict::{Answer, Found};
+use crate::jobs::{SizedJob, SoundJob};
+use machine::{Frame, settings};
+use verdict::{Refusal, Room};
 
-mod couples;
-mod states;
+pub mod jobs;
 
-// Whether the sizes are in their ranges and the table has an element for each couple: otherwise refusal 2 or 3.
-pub fn tabled(frame: Frame, table: &[u8]) -> bool
-    ensures { Decides (Tabled (machine_of frame table.now)) result }
-{
-    check_sizes(frame, table).number == 0
+// What a table job is handed: a frame and a table of moves, and whether several inputs may change at once.
+#[derive(Clone, Copy, Debug, PartialEq, Eq)]
+pub struct Job<'a> {
+    pub frame: Frame,
+    pub several: bool,
+    pub table: &'a [u8],
 }
 
-// Refusals 2 and 3 of a table.
-fn check_sizes(frame: Frame, table: &[u8]) -> Answer
-    ensures { Judged (size_checks (machine_of frame table.now)) Passed result }
-{
-    if !sized(frame) {
-        return Answer {
-            number: 2,
-            place: 0,
-        };
-    }
-    let couples = frame.states * settings(frame.inputs);
-    if table.len() < couples {
-        return Answer {
-            number: 3,
-            place: couples,
-        };
-    }
-    Answer {
-        number: 0,
-        place: 0,
-    }
-}
-
-// Refusals 2, 3, 4 and 10 of a table.
-pub fn check_table(frame: Frame, table: &[u8]) -> Answer
-    ensures { Judged (table_checks (machine_of frame table.now)) Passed result }
-{
-    let sizes = check_sizes(frame, table);
-    if sizes.number != 0 {
-        return sizes;
-    }
-    check_moves(table, frame.states, settings(frame.inputs))
-}
-
-// Refusals 2, 3, 4 and 10 to 13 of a table and the output words of its states.
-pub fn check_sound(frame: Frame, table: &[u8], words: &[u16]) -> Answer
-    ensures { Judged (sound_checks (machine_of frame table.now) words.now) Passed result }
-{
-    let sizes = check_sizes(frame, table);
-    if sizes.number != 0 {
-        return sizes;
-    }
-    if words.len() < frame.states {
-        return Answer {
-            number: 3,
-            place: frame.states,
-        };
-    }
-    let m = settings(frame.inputs);
-    let moves = check_moves(table, frame.states, m);
-    if moves.number != 0 {
-        return moves;
-    }
-    check_states(frame, table, words, m)
-}
-
-// Refusals 11, 12 and 13, at m settings.
-fn check_states(frame: Frame, table: &[u8], words: &[u16], m: usize) -> Answer
-    requires { Tabled (machine_of frame table.now) × Fit table.now frame.states m frame.initial × (frame.states ≤ length words.now) × (m ≡ 2 ^ frame.inputs) }
-    ensures { Judged (state_checks (machine_of frame table.now) words.now) Passed result }
-{
-    if let Found::At(s) = first_same(words, frame.states) {
-        return Answer {
-            number: 11,
-            place: s,
-        };
-    }
-    if let Found::At(s) = first_unreached(table, frame.states, m, frame.initial) {
-        return Answer {
-            number: 12,
-            place: s,
-        };
-    }
-    if !started(frame, table) {
-        return Answer {
-            number: 13,
-            place: 0,
-        };
-    }
-    Answer {
-        number: 0,
-        place: 0,
-    }
-}
-
-// Whether a setting is a start of a table, refusals 2 and 3 passed.
-pub fn is_start(frame: Frame, table: &[u8], setting: usize) -> bool
-    ensures { Decides (Tabled (machine_of frame table.now) × Starts (machine_of frame table.now) setting) result }
-{
-    if !tabled(frame, table) {
-        return false;
-    }
-    if settings(frame.inputs) <= setting {
-        return false;
-    }
-    let initial = frame.initial;
-    if wide(table[(initial << frame.inputs) + setting]) != initial {
-        return false;
-    }
-    startable(frame, setting)
-}
-
-// Whether a table has a start, refusals 2 and 3 passed: otherwise refusal 13.
-pub fn started(frame: Frame, table: &[u8]) -> bool
-    ensures { Decides (Tabled (machine_of frame table.now) × ((v : ℕ) × Starts (machine_of frame table.now) v)) result }
-{
-    for v in 0..settings(frame.inputs) {
-        if is_start(frame, table, v) {
-            return true;
+impl<'a> Job<'a> {
+    // A job whose runs change one input at a time.
+    pub fn single(frame: Frame, table: &'a [u8]) -> Self
+        ensures { (machine_in result ≡ machine_of frame table.now) × (result.frame ≡ frame) × (result.several ≡ false) × (result.table.now ≡ table.now) }
+    {
+        Job {
+            frame,
+            several: false,
+            table,
         }
     }
-    false
+
+    // A job whose runs may change several inputs at once.
+    pub fn multiple(frame: Frame, table: &'a [u8]) -> Self
+        ensures { (machine_in result ≡ machine_by true frame table.now) × (result.frame ≡ frame) × (result.several ≡ true) × (result.table.now ≡ table.now) }
+    {
+        Job {
+            frame,
+            several: true,
+            table,
+        }
+    }
+
+    // Whether the sizes are in their ranges and the table has an element for each couple: otherwise refusal 2 or 3.
+    pub fn tabled(self) -> bool
+        ensures { Decides (Tabled (machine_in self.entry)) result }
+    {
+        self.check_sizes().is_ok()
+    }
+
+    // Refusals 2 and 3 of a table.
+    pub fn check_sizes(self) -> Result<SizedJob<'a>, Refusal>
+        ensures verdict { Judged (size_checks (machine_in self.entry)) Passed (verdict_of result) }
+        ensures job { IfOk result (λ sized. sized.job ≡ self.entry) }
+    {
+        if !self.frame.sized() {
+            return Err(Refusal::WrongSize);
+        }
+        let needed = self.frame.states * settings(self.frame.inputs);
+        Room {
+            needed,
+            has: self.table.len(),
+        }
+        .check()?;
+        Ok(SizedJob { job: self })
+    }
+
+    // Refusals 2, 3, 4 and 10 of a table.
+    pub fn check_table(self) -> Result<SoundJob<'a>, Refusal>
+        ensures verdict { Judged (table_checks (machine_in self.entry)) Passed (verdict_of result) }
+        ensures job { IfOk result (λ sound. sound.job ≡ self.entry) }
+    {
+        self.check_sizes()?.check_moves()
+    }
+
+    // Refusals 2, 3, 4 and 10 to 13 of a table and the output words of its states.
+    pub fn check_sound(self, words: &[u16]) -> Result<(), Refusal>
+        ensures { Judged (sound_checks (machine_in self.entry) words.now) Passed (verdict_of result) }
+    {
+        let sized = self.check_sizes()?;
+        Room {
+            needed: self.frame.states,
+            has: words.len(),
+        }
+        .check()?;
+        sized.check_moves()?.check_states(words)
+    }
+
+    // Whether a setting is a start of a table, refusals 2 and 3 passed.
+    pub fn is_start(self, setting: usize) -> bool
+        ensures { Decides (Tabled (machine_in self.entry) × Starts (machine_in self.entry) setting) result }
+    {
+        self.check_sizes()
+            .is_ok_and(|sized| sized.is_start(setting))
+    }
+
+    // Whether a table has a start, refusals 2 and 3 passed: otherwise refusal 13.
+    pub fn started(self) -> bool
+        ensures { Decides (Tabled (machine_in self.entry) × ((v : ℕ) × Starts (machine_in self.entry) v)) result }
+    {
+        self.check_sizes().is_ok_and(|sized| sized.started())
+    }
 }

@@ -7,7 +7,7 @@ use mathlib.Core.Logic.{⊎_elim}
 use Prim.Native.Nat.{ℕ, ◌≤◌, ◌<◌}
 use lib.Dec.{leb}
 use native.Mathlib.Omega.{arith}
-use Rattle.verdict.specs.Checks.{Least, None, Check, check, Then, refused, next, Verdict, Passed, Unless, Short, Within, Past, Judged}
+use Rattle.verdict.specs.Checks.{Least, Nowhere, Check, check, Then, refused, next, Verdict, Passed, Unless, Short, Within, Past, Judged}
 use Rattle.verdict.specs.declared.Answer.{Answer}
 use Rattle.verdict.proofs.Tests.{least_unique, decides_at_most, decides_true, ◌also◌}
 
@@ -33,7 +33,7 @@ within low high c cs e =
 
 abbrev pub Passes : List Check → Type 0
 Passes [] = Unit {0}
-Passes (c ∷ cs) = None c.fails × Passes cs
+Passes (c ∷ cs) = Nowhere c.fails × Passes cs
 
 -- one answer, where success has one once no check fails
 pub verdict_unique : (cs : List Check) (done : Answer → Type 0) (only : Passes cs → (a b : Answer) → done a → done b → a ≡ b) (a b : Answer) → Verdict cs done a → Verdict cs done b → a ≡ b
@@ -108,7 +108,7 @@ pub judged_past : (cs : List Check) {ds : List Check} {done : Answer → Type 0}
 judged_past cs {ds} {done} {a} high v num n = let p = past cs ds done high a num n v.verdict in (p, judged_rest cs p v)
 
 -- a check passed, a check that refuses
-pub pass : {F : ℕ → Type 0} {n : ℕ} {cs : List Check} {done : Answer → Type 0} {a : Answer} → None F → Judged cs done a → Judged (check n F ∷ cs) done a
+pub pass : {F : ℕ → Type 0} {n : ℕ} {cs : List Check} {done : Answer → Type 0} {a : Answer} → Nowhere F → Judged cs done a → Judged (check n F ∷ cs) done a
 pass n v = record { verdict = next n v.verdict }
 
 pub halt : {F : ℕ → Type 0} {n p : ℕ} {cs : List Check} {done : Answer → Type 0} → Least F p → Judged (check n F ∷ cs) done (record { number = n; place = p })
@@ -131,15 +131,15 @@ judged_unique v w = judged_only passed_unique v w
 pub short : {needed has p : ℕ} → p ≡ needed → has < needed → Least (Short needed has) p
 short e h = record { here = (e, h); first = λ q l f. let g = f.0 in omega arith }
 
-pub long : {needed has : ℕ} → needed ≤ has → None (Short needed has)
+pub long : {needed has : ℕ} → needed ≤ has → Nowhere (Short needed has)
 long h = record { nowhere = λ p f. let e = f.1 in omega arith }
 
-pub roomy : {needed has : ℕ} → None (Short needed has) → needed ≤ has
+pub roomy : {needed has : ℕ} → Nowhere (Short needed has) → needed ≤ has
 roomy {needed} {has} n = let f : has < needed → ⊥ = λ h. n.nowhere needed (refl, h) in omega arith
 
 module _ {F : ℕ → Type 0} {n : ℕ} {cs : List Check} {done : Answer → Type 0} {a : Answer} where
   -- the first check refused, or the rest decided
-  pub judged_or : {P : Type 0} → Judged (check n F ∷ cs) done a → (Least F a.place → a.number ≡ n → P) → (None F → Judged cs done a → P) → P
+  pub judged_or : {P : Type 0} → Judged (check n F ∷ cs) done a → (Least F a.place → a.number ≡ n → P) → (Nowhere F → Judged cs done a → P) → P
   judged_or {P} v f g = by v.verdict
     where
       by : Then F n (Verdict cs done a) a → P
@@ -147,12 +147,12 @@ module _ {F : ℕ → Type 0} {n : ℕ} {cs : List Check} {done : Answer → Typ
       by (next m w) = g m (record { verdict = w })
 
   -- a check that fails at the same places, in front of a list that says the same
-  pub judged_row : {G : ℕ → Type 0} {ds : List Check} {end : Answer → Type 0} → ((p : ℕ) → F p → G p) → ((p : ℕ) → G p → F p) → (None G → Judged cs done a → Judged ds end a)
+  pub judged_row : {G : ℕ → Type 0} {ds : List Check} {end : Answer → Type 0} → ((p : ℕ) → F p → G p) → ((p : ℕ) → G p → F p) → (Nowhere G → Judged cs done a → Judged ds end a)
       → Judged (check n F ∷ cs) done a → Judged (check n G ∷ ds) end a
   judged_row {G} to from then v =
       judged_or v
       (λ l e. record { verdict = refused (record { here = to _ l.here; first = λ p h g. l.first p h (from p g) }) e })
-      (λ m w. let none : None G = record { nowhere = λ p g. m.nowhere p (from p g) } in pass none (then none w))
+      (λ m w. let none : Nowhere G = record { nowhere = λ p g. m.nowhere p (from p g) } in pass none (then none w))
 
   -- the same check
   pub judged_same : {ds : List Check} {end : Answer → Type 0} → (Judged cs done a → Judged ds end a) → Judged (check n F ∷ cs) done a → Judged (check n F ∷ ds) end a

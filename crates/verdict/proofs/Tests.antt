@@ -1,6 +1,6 @@
 -- What tests and searches tell: a test decides a fact, a search that has seen nothing below i goes on, finds at i or ends, and each
 -- has one answer.
-use mathlib.Core.Path.{◌≡◌, refl, sym, ap, subst, ◌∙◌}
+use mathlib.Core.Path.{◌≡◌, refl, sym, ap, ◌∙◌}
 use mathlib.Core.Bool.{Bool, true, false, not, ◌&&◌, cond}
 use mathlib.Core.Logic.{◌⊎◌, ⊎_elim, inl, inr}
 use Prim.Native.Nat.{ℕ, ◌+◌, ◌≤◌, ◌<◌}
@@ -9,9 +9,8 @@ use native.Mathlib.Nat.{not-le_of_lt, not-suc-le-zero}
 use lib.Dec.{eqb, leb, ltb}
 use borrow.Author.Tests.{eqb-true, eqb-false, leb-true, leb-false, ltb-true, ltb-false}
 use borrow.Author.Count.{below_more}
-use Rattle.verdict.specs.Checks.{Decides, Finds, at, nothing, Least, None, Unless, Within}
-use Rattle.verdict.specs.declared.Found.{Found}
-use Rattle.verdict.specs.declared.Found.TheVariants.{At, Nothing}
+use Rattle.std.specs.Prelude.{Option, Some, None}
+use Rattle.verdict.specs.Checks.{Decides, Finds, Least, Nowhere, Unless, Within}
 
 pub true≢false : true ≡ false → ⊥
 true≢false e = eqb-false 0 1 refl (ap (λ (t : Bool). elim t [ true ↦ 0 | false ↦ 1 ]) e)
@@ -77,31 +76,14 @@ pub decides_is : {P : Type 0} {b : Bool} → Decides P b → P → b ≡ true
 decides_is {b = true} d p = refl
 decides_is {b = false} d p = absurd (d.fails refl p)
 
--- what a search that answered `x` found
-pub at_least : {F : ℕ → Type 0} {x : Found} {p : ℕ} → Finds F x → x ≡ At p → Least F p
-at_least {F} f e = by (subst (Finds F) e f)
-  where
-    by : {p : ℕ} → Finds F (At p) → Least F p
-    by (at l) = l
-
-pub found_none : {F : ℕ → Type 0} {x : Found} → Finds F x → x ≡ Nothing → None F
-found_none {F} f e = by (subst (Finds F) e f)
-  where
-    by : Finds F Nothing → None F
-    by (nothing n) = n
-
-pub at_something : {p : ℕ} → At p ≡ Nothing → ⊥
-at_something e = true≢false (ap (λ (x : Found). elim x [ At p ↦ true | Nothing ↦ false ]) e)
-
 -- the same search, of a predicate that says the same
-pub finds_map : {F G : ℕ → Type 0} {x : Found} → ((p : ℕ) → F p → G p) → ((p : ℕ) → G p → F p) → Finds F x → Finds G x
-finds_map to from (at l) = at (record { here = to _ l.here; first = λ p h g. l.first p h (from p g) })
-finds_map to from (nothing n) = nothing (record { nowhere = λ p g. n.nowhere p (from p g) })
+pub finds_map : (F G : ℕ → Type 0) (x : Option ℕ) → ((p : ℕ) → F p → G p) → ((p : ℕ) → G p → F p) → Finds F x → Finds G x
+finds_map F G (Some p) to from l = record { here = to p l.here; first = λ q h g. l.first q h (from q g) }
+finds_map F G None to from n = record { nowhere = λ p g. n.nowhere p (from p g) }
 
 -- faults of what is fit
-module _ {G : Type 0} {F : ℕ → Type 0} where
-  pub within : {x : Found} → G → Finds F x → Finds (Within G F) x
-  within g = finds_map (λ p f. record { fit = g; fault = f }) (λ p w. w.fault)
+pub within : {G : Type 0} (F : ℕ → Type 0) (x : Option ℕ) → G → Finds F x → Finds (Within G F) x
+within F x g = finds_map F _ x (λ p f. record { fit = g; fault = f }) (λ p w. w.fault)
 
 -- F at none of the places below i: the invariant of a search
 pub record Unseen (F : ℕ → Type 0) (i : ℕ) : Type 0 where
@@ -116,17 +98,17 @@ unseen_more {F} {i} u h = record { none = below_more (λ (k : ℕ). F k → ⊥)
 pub unseen_at : {F : ℕ → Type 0} {i j : ℕ} → Unseen F i → j ≤ i → Unseen F j
 unseen_at u h = record { none = λ k l. u.none k (omega arith) }
 
-pub unseen_here : {F : ℕ → Type 0} {i : ℕ} → Unseen F i → F i → Finds F (At i)
-unseen_here u f = at (record { here = f; first = u.none })
+pub unseen_here : {F : ℕ → Type 0} {i : ℕ} → Unseen F i → F i → Least F i
+unseen_here u f = record { here = f; first = u.none }
 
-pub unseen_end : {F : ℕ → Type 0} {i : ℕ} → Unseen F i → ((k : ℕ) → F k → k < i) → Finds F Nothing
-unseen_end u all = nothing (record { nowhere = λ p f. u.none p (all p f) f })
+pub unseen_end : {F : ℕ → Type 0} {i : ℕ} → Unseen F i → ((k : ℕ) → F k → k < i) → Nowhere F
+unseen_end u all = record { nowhere = λ p f. u.none p (all p f) f }
 
 -- a check of the whole input
 pub whole : {P : Type 0} → (P → ⊥) → Least (Unless P) 0
 whole n = record { here = (refl, n); first = λ p l. absurd (not-suc-le-zero l) }
 
-pub meets : {P : Type 0} → P → None (Unless P)
+pub meets : {P : Type 0} → P → Nowhere (Unless P)
 meets h = record { nowhere = λ p f. f.1 h }
 
 -- a least place is one

@@ -1,8 +1,6 @@
 -- The order of checks (document 01, "Refusals by number"). Assumes nothing: these are definitions.
-use Rattle.std.specs.Prelude.{◌≡◌, Bool, true, false, List, [], ◌∷◌, ◌⊎◌, ℕ, ◌<◌}
+use Rattle.std.specs.Prelude.{◌≡◌, Bool, true, false, List, [], ◌∷◌, ◌⊎◌, ℕ, ◌<◌, Option, Some, None}
 use Rattle.verdict.specs.declared.Answer.{Answer}
-use Rattle.verdict.specs.declared.Found.{Found}
-use Rattle.verdict.specs.declared.Found.TheVariants.{At, Nothing}
 use Rattle.verdict.specs.declared.Room.{Room}
 
 -- a test answers whether P holds
@@ -11,7 +9,7 @@ pub record Decides (P : Type 0) (answer : Bool) : Type 0 where
   pub fails : answer ≡ false → P → ⊥
 
 -- nowhere
-pub record None (fails : ℕ → Type 0) : Type 0 where
+pub record Nowhere (fails : ℕ → Type 0) : Type 0 where
   pub nowhere : (p : ℕ) → fails p → ⊥
 
 -- at this place, and at no smaller one
@@ -20,9 +18,9 @@ pub record Least (fails : ℕ → Type 0) (place : ℕ) : Type 0 where
   pub first : (p : ℕ) → p < place → fails p → ⊥
 
 -- what a search for the least place answers
-pub data Finds (fails : ℕ → Type 0) : Found → Type 0 where
-  at : {p : ℕ} → Least fails p → Finds fails (At p)
-  nothing : None fails → Finds fails Nothing
+abbrev pub Finds : (ℕ → Type 0) → Option ℕ → Type 0
+Finds fails (Some place) = Least fails place
+Finds fails None = Nowhere fails
 
 -- one row of the table of refusals: its number, and the places at which it fails
 pub record Check : Type 1 where
@@ -65,7 +63,7 @@ pub record Passed (a : Answer) : Type 0 where
 -- a check: it refuses the input at its least place, or fails nowhere and the rest decides
 pub data Then (fails : ℕ → Type 0) (number : ℕ) (rest : Type 0) (a : Answer) : Type 0 where
   refused : Least fails a.place → a.number ≡ number → Then fails number rest a
-  next : None fails → rest → Then fails number rest a
+  next : Nowhere fails → rest → Then fails number rest a
 
 -- the checks in their order; where none fails, `done` says what is answered
 abbrev pub Verdict : List Check → (Answer → Type 0) → Answer → Type 0
@@ -84,4 +82,4 @@ Fails (c ∷ cs) = ((p : ℕ) × c.fails p) ⊎ Fails cs
 -- the first check of the list that fails has the number of a, and the place of a is the least at which it fails
 abbrev pub FirstFails : List Check → Answer → Type 0
 FirstFails [] a = ⊥
-FirstFails (c ∷ cs) a = ((c.number ≡ a.number) × Least c.fails a.place) ⊎ (None c.fails × FirstFails cs a)
+FirstFails (c ∷ cs) a = ((c.number ≡ a.number) × Least c.fails a.place) ⊎ (Nowhere c.fails × FirstFails cs a)

@@ -1,10 +1,14 @@
 -- What the functions that read a part of a condition find.
-use Rattle.std.specs.Prelude.{ℕ, suc, ◌+◌, ◌≤◌, ◌<◌, ◌≡◌, List, [], ◌∷◌, ◌++◌, Bool, true, false, not, length, take, drop, get_or}
+use Rattle.std.specs.Prelude.{Result, Ok, Err, ℕ, suc, ◌+◌, ◌-◌, ◌≤◌, ◌<◌, ◌≡◌, List, [], ◌∷◌, ◌++◌, Bool, length, take, drop, get_or}
 -- the byte of a character, for the contracts too
 pub use Prim.Native.Char.{code}
-use Rattle.condition.specs.Grammar.{Level, or, and, factor, joined, byte, Tree, text, opened, Below, holds}
+use Rattle.condition.specs.Grammar.{Level, Join as GrammarJoin, or, and, factor, joined, part, byte, Tree, text, opened, Below, holds}
+use Rattle.condition.specs.declared.Join.{Join}
+use Rattle.condition.specs.declared.Join.TheVariants.{Or, And}
 use Rattle.condition.specs.declared.Part.{Part}
-use Rattle.condition.specs.declared.Part.TheVariants.{Value, Bad}
+use Rattle.condition.specs.declared.Reader.{Reader}
+use Rattle.condition.specs.declared.Stop.{Stop}
+use Rattle.condition.specs.Condition.{parentheses}
 
 -- w does not begin with c
 abbrev pub NotFirst : ℕ → List ℕ → Type 0
@@ -50,21 +54,14 @@ pub record FailedAt (l : Level) (n d : ℕ) (s : List ℕ) (at place : ℕ) : Ty
   pub failed : Failed l n d (drop at s) passed
 
 -- what reading a part of level l at `at` finds
-pub data Found (l : Level) (n v d : ℕ) (s : List ℕ) (at : ℕ) : Part → Type 0 where
-  reads : {b : Bool} {end : ℕ} → FoundTo l n v d s at b end → Found l n v d s at (Value b end)
-  stops : {place : ℕ} → FailedAt l n d s at place → Found l n v d s at (Bad place)
+abbrev pub Found : Level → Reader → ℕ → Result Part Stop → Type 0
+Found l r at (Ok p) = FoundTo l r.inputs r.setting (parentheses - r.opened) r.text.now at p.holds p.end
+Found l r at (Err e) = FailedAt l r.inputs (parentheses - r.opened) r.text.now at e.place
 
--- b, negated where negates is true
-abbrev pub flipped : Bool → Bool → Bool
-flipped true b = not b
-flipped false b = b
+-- the grammar's name of a join, and the level of what it joins
+abbrev pub join_of : Join → GrammarJoin
+join_of Or = or
+join_of And = and
 
--- from `at` to `end` stand the characters `bangs`: a factor behind them makes a factor with them, negated where negates is true, and
--- each factor that begins with them is made so
-pub record Skipped (s : List ℕ) (at : ℕ) (negates : Bool) (end : ℕ) : Type 0 where
-  pub bangs : List ℕ
-  pub count : end ≡ at + length bangs
-  pub spelt : drop at s ≡ bangs ++ drop end s
-  pub wrap : (n v d : ℕ) (u r : List ℕ) (x : Reading factor n d u r)
-      → (y : Reading factor n d (bangs ++ u) r) × (holds v y.tree ≡ flipped negates (holds v x.tree))
-  pub strip : (n d : ℕ) (u r : List ℕ) → Reading factor n d (bangs ++ u) r → Reading factor n d u r
+abbrev pub level_of : Join → Level
+level_of j = part (join_of j)

@@ -1,19 +1,13 @@
--- `holding::set_of` meets its contract: no setting is below 0, each turn adds one, and at the end all have been asked.
-use Rattle.std.proofs.Common.{◌≡◌, ℕ, subst, ◌∙◌, arith}
-use Rattle.sets.specs.Sets.{words, SetOf}
-use Rattle.sets.proofs.Arrays.{set_none}
-use Rattle.condition.specs.Condition.{Holds}
+-- `holding::set_of` meets its contract: each turn adds its setting where the condition holds there.
+use Rattle.std.proofs.Common.{arith}
+use Rattle.sets.proofs.Arrays.{set_in, set_out}
 use Rattle.holding.proofs.set_of.Goals as goal
+use Rattle.holding.proofs.set_of.Goals.{then-holds, else-holds}
 
-pub loop-v-init : goal.loop-v-init
-loop-v-init c = set_none words 0 (λ v l. absurd (omega arith))
-
-pub more-next-requires : goal.more-next-requires
-more-next-requires c = (omega (arith, c.settings-v-end.ensures.few.1), c.loop-v.invariant)
-
-pub returns : goal.returns
-returns c =
-    let e : c.loop-v.v ≡ c.settings-v-end.result = omega arith in
-    let at : (k : ℕ) → c.settings-v-end.result ≡ k → SetOf words k (λ u. Holds c.args.inputs u c.args.text.now) c.loop-v.set =
-    λ k f. subst (λ (j : ℕ). SetOf words j (λ u. Holds c.args.inputs u c.args.text.now) c.loop-v.set) (e ∙ f) c.loop-v.invariant in
-    record { few = λ h. at _ (c.settings-v-end.ensures.few.0 h); many = λ h. at _ (c.settings-v-end.ensures.many h) }
+pub loop-v-preserved : goal.loop-v-preserved
+loop-v-preserved c = elim c.if-holds.branch [
+  | then-holds w ↦
+      rw w.set-is (set_in c.loop-v.invariant (omega (arith, c.settings-v-end.ensures.few.1)) (c.holds.ensures.holds w.if-holds.true) w.with-next.ensures.array
+      w.with-next.ensures.members)
+  | else-holds w ↦ rw w.set-is (set_out c.loop-v.invariant (c.holds.ensures.fails w.if-holds.false))
+]

@@ -4,4 +4,4 @@ use Rattle.marking.proofs.Outcomes.{marked_single}
 use Rattle.marking.proofs.mark.Goals as goal
 
 pub returns : goal.returns
-returns c = marked_single c.args.frame c.args.table.now refl refl c.mark_parents.ensures
+returns c = marked_single c.args.frame c.args.table.now refl refl (rw c.single.ensures.0 at c.mark_parents.ensures)

@@ -1,96 +1,93 @@
 -- What the functions of marking by a queue ask of one another.
-use Rattle.std.specs.Prelude.{◌≡◌, ◌⊎◌, Bool, true, false, List, ℕ, suc, ◌+◌, ◌*◌, ◌/◌, ◌%◌, ◌^◌, ◌≤◌, ◌<◌, length, get_or}
-use Rattle.machine.specs.Limits.{most_inputs, most_couples}
+use Rattle.std.specs.Prelude.{◌≡◌, ◌⊎◌, Bool, true, false, List, ℕ, suc, ◌+◌, ◌/◌, ◌%◌, ◌^◌, ◌≤◌, ◌<◌, length, get_or, Option, Some, None}
 use Rattle.machine.specs.Couples.{differing}
 use Rattle.machine.specs.inner.Flips.{flipped}
-use Rattle.machine.specs.Runs.{Machine, couples, Starts}
+use Rattle.machine.specs.Runs.{Machine, size, couples, couple, move, Starts}
 use Rattle.several.specs.Weights.{extra, unweighed}
+use Rattle.marking.specs.declared.changes.Changes.{Changes}
+use Rattle.marking.specs.declared.changes.Changes.TheVariants.{Single, Multiple}
 use Rattle.marking.specs.inner.Levels.{Level, Heads}
 use Rattle.marking.specs.inner.Queue.{Between, Room, Spread}
 
 -- a change from setting v to setting w is multiple, or of one input
-abbrev pub Kind : Bool → ℕ → ℕ → ℕ → Type 0
-Kind true n v w = 1 < differing n v w
-Kind false n v w = differing n v w ≡ 1
+abbrev pub Kind : Changes → ℕ → ℕ → ℕ → Type 0
+Kind Multiple n v w = 1 < differing n v w
+Kind Single n v w = differing n v w ≡ 1
 
 -- what it weighs
-abbrev pub weight_of : Bool → ℕ
-weight_of true = suc extra
-weight_of false = 1
+abbrev pub weight_of : Changes → ℕ
+weight_of Multiple = suc extra
+weight_of Single = 1
 
 -- in state s, a change to setting w visits d
-abbrev pub ByChange : List ℕ → ℕ → ℕ → ℕ → ℕ → Type 0
-ByChange T z s w d = (d ≡ s * z + w) ⊎ (d ≡ get_or T (s * z + w) 0 * z + w)
+abbrev pub ByChange : Machine → ℕ → ℕ → ℕ → Type 0
+ByChange m s w d = (d ≡ couple m s w) ⊎ (d ≡ couple m (move m s w) w)
 
 -- from couple p, a change to setting w, which a run may make, visits d
-abbrev pub ByChanged : Machine → ℕ → ℕ → ℕ → ℕ → Type 0
-ByChanged m z p w d = (m.may_change (p % z) w ≡ true) × ByChange m.table z (p / z) w d
+abbrev pub ByChanged : Machine → ℕ → ℕ → ℕ → Type 0
+ByChanged m p w d = (m.may_change (p % size m) w ≡ true) × ByChange m (p / size m) w d
 
--- a change of one of the first i inputs does
-abbrev pub ByInputs : Machine → ℕ → ℕ → ℕ → ℕ → Type 0
-ByInputs m z p i d = (j : ℕ) × (j < i) × ByChanged m z p (flipped (p % z) (2 ^ j)) d
+-- how many changes of a kind are tried, each input flipped or each setting
+abbrev pub tried : Changes → Machine → ℕ
+tried Multiple m = size m
+tried Single m = m.inputs
 
--- a change of that kind to setting w does
-abbrev pub ByKind : Machine → ℕ → Bool → ℕ → ℕ → ℕ → Type 0
-ByKind m z many p w d = Kind many m.inputs (p % z) w × ByChanged m z p w d
+-- the one with number i, from setting v, is to setting w
+abbrev pub Nth : Changes → Machine → ℕ → ℕ → ℕ → Type 0
+Nth Multiple m v i w = (w ≡ i) × Kind Multiple m.inputs v w
+Nth Single m v i w = w ≡ flipped v (2 ^ i)
 
--- such a change to one of the first t settings does
-abbrev pub BySettings : Machine → ℕ → Bool → ℕ → ℕ → ℕ → Type 0
-BySettings m z many p t d = (w : ℕ) × (w < t) × ByKind m z many p w d
+-- a search for that setting, among those to which a run may change
+abbrev pub Told : Changes → Machine → ℕ → ℕ → Option ℕ → Type 0
+Told many m v i (Some w) = Nth many m v i w × (m.may_change v w ≡ true)
+Told many m v i None = (w : ℕ) → Nth many m v i w → m.may_change v w ≡ true → ⊥
 
--- from couple p, at rest, such a change to any setting visits d
-abbrev pub ByRest : Machine → ℕ → Bool → ℕ → ℕ → Type 0
-ByRest m z many p d = (get_or m.table p 0 ≡ p / z) × BySettings m z many p z d
+-- from couple p, the change with number i visits d
+abbrev pub ByNth : Changes → Machine → ℕ → ℕ → ℕ → Type 0
+ByNth many m p i d = (w : ℕ) × Nth many m (p % size m) i w × ByChanged m p w d
+
+-- one of the first t does
+abbrev pub ByFirst : Changes → Machine → ℕ → ℕ → ℕ → Type 0
+ByFirst many m p t d = (i : ℕ) × (i < t) × ByNth many m p i d
+
+-- from couple p, at rest, a change of a kind to any setting does
+abbrev pub ByRest : Changes → Machine → ℕ → ℕ → Type 0
+ByRest many m p d = (get_or m.table p 0 ≡ p / size m) × (w : ℕ) × (w < size m) × Kind many m.inputs (p % size m) w × ByChanged m p w d
 
 -- d is the couple of the initial state and setting u, a start
-abbrev pub ByStart : Machine → ℕ → ℕ → ℕ → Type 0
-ByStart m z u d = Starts m u × (d ≡ m.initial * z + u)
+abbrev pub ByStart : Machine → ℕ → ℕ → Type 0
+ByStart m u d = Starts m u × (d ≡ couple m m.initial u)
 
 -- d is that of a start among the first v settings
-abbrev pub ByStarts : Machine → ℕ → ℕ → ℕ → Type 0
-ByStarts m z v d = (u : ℕ) × (u < v) × ByStart m z u d
-
--- a table of t couples in rows of z = 2 ^ n, whose moves are rows
-pub record Rows (T : List ℕ) (z n t : ℕ) : Type 0 where
-  pub settings_are : z ≡ 2 ^ n
-  pub few : n ≤ most_inputs
-  pub low : t ≤ most_couples
-  pub table_long : t ≤ length T
-  pub row : (c w : ℕ) → c < t → w < z → c / z * z + w < t
-  pub moved : (c w : ℕ) → c < t → w < z → get_or T c 0 * z + w < t
-
--- a change to setting w in state s can be read in the table, and both couples that it visits are among the weights
-pub record Targets (T R : List ℕ) (z s w : ℕ) : Type 0 where
-  pub read : s * z + w < length T
-  pub first : s * z + w < length R
-  pub second : get_or T (s * z + w) 0 * z + w < length R
+abbrev pub ByStarts : Machine → ℕ → ℕ → Type 0
+ByStarts m v d = (u : ℕ) × (u < v) × ByStart m u d
 
 -- couple c can be expanded, to weight r
-pub record Expands (T R P Q : List ℕ) (z n tail c r : ℕ) : Type 0 where
-  pub rows : Rows T z n (length R)
+pub record Expands (m : Machine) (R P Q : List ℕ) (tail c r : ℕ) : Type 0 where
   pub room : Room R P Q tail
+  pub total : length R ≡ couples m
   pub below : c < length R
   pub small : r < unweighed
 
 -- one head can go over the queue from place a up to place e, offering weight r
-pub record Spreading (T R P Q : List ℕ) (z n r a e tail : ℕ) : Type 0 where
-  pub rows : Rows T z n (length R)
+pub record Spreading (m : Machine) (R P Q : List ℕ) (r a e tail : ℕ) : Type 0 where
   pub room : Room R P Q tail
+  pub total : length R ≡ couples m
   pub small : r < unweighed
   pub from : a ≤ e
   pub to : e ≤ tail
   pub light : (i : ℕ) → i < e → get_or R (get_or Q i 0) 0 + suc extra ≤ unweighed
 
 -- it has come to place h: the couples before it, which changes of its kind bring to weight r, were expanded
-pub record Going (m : Machine) (z : ℕ) (many : Bool) (r a e : ℕ) (R P Q : List ℕ) (tail : ℕ) (R' P' Q' : List ℕ) (h tail' : ℕ) : Type 0 where
-  pub spread : Spread (λ q d. Between Q a h q × ByRest m z many q d) r R P Q tail R' P' Q' tail'
+pub record Going (m : Machine) (many : Changes) (r a e : ℕ) (R P Q : List ℕ) (tail : ℕ) (R' P' Q' : List ℕ) (h tail' : ℕ) : Type 0 where
+  pub spread : Spread (λ q d. Between Q a h q × ByRest many m q d) r R P Q tail R' P' Q' tail'
   pub from : a ≤ h
   pub to : h ≤ e
   pub over : (i : ℕ) → a ≤ i → i < h → get_or R (get_or Q i 0) 0 + weight_of many ≡ r
 
 -- and stays there: they do not bring the couple at place h to weight r
-pub record SpreadAs (m : Machine) (z : ℕ) (many : Bool) (r a e : ℕ) (R P Q : List ℕ) (tail : ℕ) (R' P' Q' : List ℕ) (h tail' : ℕ) : Type 0 where
-  pub going : Going m z many r a e R P Q tail R' P' Q' h tail'
+pub record SpreadAs (m : Machine) (many : Changes) (r a e : ℕ) (R P Q : List ℕ) (tail : ℕ) (R' P' Q' : List ℕ) (h tail' : ℕ) : Type 0 where
+  pub going : Going m many r a e R P Q tail R' P' Q' h tail'
   pub stop : h < e → get_or R (get_or Q h 0) 0 + weight_of many ≡ r → ⊥
 
 -- at this place the queue holds a couple whose weight can be added to

@@ -5,8 +5,7 @@ use Rattle.verdict.specs.Buffers.{Left}
 use Rattle.verdict.specs.declared.Answer.{Answer}
 use Rattle.machine.specs.Limits.{unmarked}
 use Rattle.machine.specs.Runs.{Machine, couples, RankOrUnmarked}
-use Rattle.tables.specs.Tables.{size_checks, move_checks, start_checks}
-use Rattle.tables.specs.inner.Fits.{Checked}
+use Rattle.tables.specs.Tables.{size_checks, move_checks, start_checks, Checked}
 use Rattle.several.specs.Several.{singly}
 use Rattle.several.specs.Weights.{extra, unweighed, WeightOrNone, ParentOrNone}
 
@@ -24,11 +23,6 @@ pub record Blank (m : Machine) (W P : List ℕ) : Type 0 where
   pub exact : Exact m W P
   pub weights_blank : (c : ℕ) → c < couples m → get_or W c 0 ≡ unweighed
   pub parents_blank : (c : ℕ) → c < couples m → get_or P c 0 ≡ 0
-
--- the checks of the table passed, and blank buffers
-pub record Ready (m : Machine) (W P : List ℕ) : Type 0 where
-  pub checked : Checked m
-  pub blank : Blank m W P
 
 -- the weight and parent of each couple
 pub record Weighed (m : Machine) (W P : List ℕ) : Type 0 where

@@ -1,27 +1,22 @@
--- What marking left, and the number of settings, are those of the machine, by which the plan or list ends.
+-- What marking left is that of the machine, by which the plan or list ends.
+use Rattle.std.proofs.lemmas.Result.{err_from_is_err_and}
 use mathlib.Core.Path.{refl}
-use native.Mathlib.Omega.{arith}
-use Rattle.plan.proofs.Marked.{ready, few_couples, run_short_lem, room}
+use Rattle.plan.proofs.Ready.{ready, room}
 use Rattle.plan.proofs.Outcomes.{plan_refused, plan_ends}
 use Rattle.plan.proofs.plan_by.Goals as goal
 
-pub returns-then-marked-ne0 : goal.returns-then-marked-ne0
-returns-then-marked-ne0 c =
-    let a = c.args in
-    plan_refused a.several a.frame a.table.now c.mark_parents-marked.ensures refl refl c.if-marked-ne0.true a.out.now
+pub returns-in_err-mark_parents : goal.returns-in_err-mark_parents
+returns-in_err-mark_parents c =
+    let job = c.args.job in
+    let p = err_from_is_err_and c.from_residual.result c.from_residual.ensures.1 in
+    rw (p.1, p.2) (plan_refused job.several job.frame job.table.now c.in_err-mark_parents.field-0.0 c.in_err-mark_parents.ensures refl refl c.args.out.now)
 
-pub overflow_mul-frame : goal.overflow_mul-frame
-overflow_mul-frame c =
-    let (y, e) = ready c.mark_parents-marked.ensures refl refl c.if-marked-ne0.false c.settings-size.ensures.few.0 in
-    rw e (omega (arith, few_couples y))
-
-pub plan_marked-requires : goal.plan_marked-requires
-plan_marked-requires c =
-    let (y, e) = ready c.mark_parents-marked.ensures refl refl c.if-marked-ne0.false c.settings-size.ensures.few.0 in
-    rw e record { room = (room y, y.weights_long); by_index = run_short_lem y }
+pub of-requires-clause-room : goal.of-requires-clause-room
+of-requires-clause-room c = room (ready c.in_ok-mark_parents.ensures refl refl refl)
 
 pub returns : goal.returns
 returns c =
-    let a = c.args in
-    let (y, e) = ready c.mark_parents-marked.ensures refl refl c.if-marked-ne0.false c.settings-size.ensures.few.0 in
-    plan_ends a.several a.frame a.table.now y (rw e at c.plan_marked.ensures)
+    let job = c.args.job in
+    let n = c.of.ensures.numbers in
+    let l = c.of.ensures.lists in
+    plan_ends job.several job.frame job.table.now (ready c.in_ok-mark_parents.ensures refl refl refl) (rw (n.0, n.1, n.2, l.0, l.1, l.2) at c.plan.ensures)

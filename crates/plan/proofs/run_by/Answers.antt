@@ -1,27 +1,22 @@
--- What marking left, and the number of settings, are those of the machine, by which the run ends.
+-- What marking left is that of the machine, by which the run ends.
+use Rattle.std.proofs.lemmas.Result.{err_from_is_err_and}
 use mathlib.Core.Path.{refl}
-use native.Mathlib.Omega.{arith}
-use Rattle.plan.proofs.Marked.{ready, few_couples, tree}
+use Rattle.plan.proofs.Ready.{ready, room}
 use Rattle.plan.proofs.Outcomes.{run_refused, run_ends}
 use Rattle.plan.proofs.run_by.Goals as goal
 
-pub returns-then-marked-ne0 : goal.returns-then-marked-ne0
-returns-then-marked-ne0 c =
-    let a = c.args in
-    run_refused a.several a.frame a.table.now c.mark_parents-marked.ensures refl refl c.if-marked-ne0.true a.couple a.run.now
+pub returns-in_err-mark_parents : goal.returns-in_err-mark_parents
+returns-in_err-mark_parents c =
+    let job = c.args.job in
+    let p = err_from_is_err_and c.from_residual.result c.from_residual.ensures.1 in
+    rw (p.1, p.2) (run_refused job.several job.frame job.table.now c.in_err-mark_parents.field-0.0 c.in_err-mark_parents.ensures refl refl c.args.couple c.args.run.now)
 
-pub overflow_mul-frame : goal.overflow_mul-frame
-overflow_mul-frame c =
-    let (y, e) = ready c.mark_parents-marked.ensures refl refl c.if-marked-ne0.false c.settings-size.ensures.few.0 in
-    rw e (omega (arith, few_couples y))
-
-pub run_marked-requires : goal.run_marked-requires
-run_marked-requires c =
-    let (y, e) = ready c.mark_parents-marked.ensures refl refl c.if-marked-ne0.false c.settings-size.ensures.few.0 in
-    rw e (tree y, y.weights_long)
+pub of-requires-clause-room : goal.of-requires-clause-room
+of-requires-clause-room c = room (ready c.in_ok-mark_parents.ensures refl refl refl)
 
 pub returns : goal.returns
 returns c =
-    let a = c.args in
-    let (y, e) = ready c.mark_parents-marked.ensures refl refl c.if-marked-ne0.false c.settings-size.ensures.few.0 in
-    run_ends a.several a.frame a.table.now y (rw e at c.run_marked.ensures)
+    let job = c.args.job in
+    let n = c.of.ensures.numbers in
+    let l = c.of.ensures.lists in
+    run_ends job.several job.frame job.table.now (ready c.in_ok-mark_parents.ensures refl refl refl) (rw (n.0, n.1, n.2, l.1, l.2) at c.run_to.ensures)

@@ -64,26 +64,15 @@ module _ (several : Bool) (table parents weights : List ℕ) (size : ℕ) where
     pub visited_are : visited' ≡ noted c visited
     pub chosen_are : chosen' ≡ flags c visited chosen
 
--- the couples that a change from couple p to setting v visits are elements of a table and of a list of so many flags
-pub record Reach (table : List ℕ) (size flags p v : ℕ) : Type 0 where
-  pub some : 0 < size
-  pub in_table : p / size * size + v < length table
-  pub in_flags : p / size * size + v < flags
-  pub moved : get_or table (p / size * size + v) 0 * size + v < flags
-
--- room for t couples in a table, a list of parents and a list of so many flags: what a change visits is a couple
-pub record Room (table parents : List ℕ) (size flags t : ℕ) : Type 0 where
+-- the weights and parents of t couples, in a table of their moves: what a change visits is a couple, and runs are short enough to be stored
+pub record Room (table parents weights : List ℕ) (size t : ℕ) : Type 0 where
   pub tree : Tree parents size t
+  pub few : t ≤ most_couples
   pub table_long : t ≤ length table
-  pub flags_long : t ≤ flags
+  pub weights_long : t ≤ length weights
   pub row : (c v : ℕ) → c < t → v < size → c / size * size + v < t
   pub moved : (c v : ℕ) → c < t → v < size → get_or table c 0 * size + v < t
-
--- c is one of them
-pub record RoomFor (table parents : List ℕ) (size flags c : ℕ) : Type 0 where
-  pub total : ℕ
-  pub room : Room table parents size flags total
-  pub below : c < total
+  pub short : (c : ℕ) → c < t → (get_or weights c 0 ≡ unweighed → ⊥) → get_or weights c 0 % extra < unmarked
 
 -- the stored plan or list of t couples, none of which is visited before
 abbrev pub whole_plan : Bool → List ℕ → List ℕ → List ℕ → ℕ → ℕ → List ℕ

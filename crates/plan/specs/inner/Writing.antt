@@ -2,7 +2,7 @@
 use Rattle.std.specs.Prelude.{◌≡◌, List, [], ◌∷◌, ◌++◌, Bool, true, false, cond, ℕ, zero, suc, ◌+◌, ◌/◌, ◌%◌, ◌≤◌, ◌<◌, length, get_or, drop}
 use Rattle.verdict.specs.Buffers.{Front}
 use Rattle.verdict.specs.declared.Answer.{Answer}
-use Rattle.machine.specs.Limits.{most_settings, unmarked}
+use Rattle.machine.specs.Limits.{most_settings}
 use Rattle.machine.specs.Plans.{stored_run}
 use Rattle.machine.specs.inner.Model.{followed}
 use Rattle.several.specs.Weights.{extra, unweighed}
@@ -32,22 +32,10 @@ pub record Tree (parents : List ℕ) (size t : ℕ) : Type 0 where
   pub long : t ≤ length parents
   pub parent : (c : ℕ) → c < t → get_or parents c 0 < t
 
--- c is one of them
-pub record InTree (parents : List ℕ) (size c : ℕ) : Type 0 where
-  pub total : ℕ
-  pub tree : Tree parents size total
-  pub below : c < total
-
 -- w, of n elements, was written at the front of a, which became b
 pub record Put (w : List ℕ) (n : ℕ) (a b : List ℕ) : Type 0 where
   pub count : n ≡ length w
   pub is : b ≡ w ++ drop n a
-
--- flags for t couples, the runs to whose chosen ones are short enough to be stored
-pub record Flags (weights : List ℕ) (chosen : List Bool) (t : ℕ) : Type 0 where
-  pub weights_long : t ≤ length weights
-  pub flags_long : t ≤ length chosen
-  pub short : (c : ℕ) → c < t → get_or chosen c false ≡ true → get_or weights c 0 % extra < unmarked
 
 -- how w ends in a lent buffer a: refused by 16 with the room needed, or at its front
 pub data Ends (w a : List ℕ) : Answer → List ℕ → Type 0 where

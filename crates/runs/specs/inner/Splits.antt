@@ -1,7 +1,5 @@
 -- Going through stored bytes from run to run.
-use Rattle.std.specs.Prelude.{◌≡◌, List, ◌++◌, ℕ, ◌+◌, ◌≤◌, ◌<◌, length, get_or, drop}
-use Rattle.verdict.specs.declared.Found.{Found}
-use Rattle.verdict.specs.declared.Found.TheVariants.{At, Nothing}
+use Rattle.std.specs.Prelude.{◌≡◌, List, ◌++◌, ℕ, ◌+◌, ◌≤◌, ◌<◌, length, get_or, drop, Option, Some, None}
 use Rattle.machine.specs.Runs.{Machine, Run}
 use Rattle.machine.specs.Plans.{stored_run}
 use Rattle.runs.specs.Stored.{settings_at, Broken}
@@ -13,9 +11,9 @@ pub record Whole (bytes : List ℕ) (p e : ℕ) : Type 0 where
   pub within : e ≤ length bytes
 
 -- where it ends, or that the bytes end before
-pub data Counted (bytes : List ℕ) (p : ℕ) : Found → Type 0 where
-  whole : {e : ℕ} → Whole bytes p e → Counted bytes p (At e)
-  cut : length bytes < p + 2 + settings_at bytes p → Counted bytes p Nothing
+abbrev pub Counted : List ℕ → ℕ → Option ℕ → Type 0
+Counted bytes p (Some e) = Whole bytes p e
+Counted bytes p None = length bytes < p + 2 + settings_at bytes p
 
 -- the settings vs are stored from byte p up to, not including, byte e
 pub record StoredAt (bytes : List ℕ) (p : ℕ) (vs : List ℕ) (e : ℕ) : Type 0 where
@@ -23,7 +21,13 @@ pub record StoredAt (bytes : List ℕ) (p : ℕ) (vs : List ℕ) (e : ℕ) : Typ
   pub ends : e ≡ p + length (stored_run vs)
   pub within : e ≤ length bytes
 
--- a run of the machine is stored at byte p and ends at a byte, or none is
-pub data Next (m : Machine) (bytes : List ℕ) (p : ℕ) : Found → Type 0 where
-  run : {vs : List ℕ} {e : ℕ} → Run m vs → StoredAt bytes p vs e → Next m bytes p (At e)
-  none : Broken m (drop p bytes) 0 → Next m bytes p Nothing
+-- a run of the machine is stored from byte p up to, not including, byte e
+pub record RunAt (m : Machine) (bytes : List ℕ) (p e : ℕ) : Type 0 where
+  pub settings : List ℕ
+  pub run : Run m settings
+  pub stored : StoredAt bytes p settings e
+
+-- where it ends, or that none is stored there
+abbrev pub Next : Machine → List ℕ → ℕ → Option ℕ → Type 0
+Next m bytes p (Some e) = RunAt m bytes p e
+Next m bytes p None = Broken m (drop p bytes) 0

@@ -3,11 +3,8 @@ use mathlib.Core.Path.{sym, subst}
 use Prim.Native.Nat.{ℕ, ◌≤◌}
 use native.Mathlib.Nat.{le_refl}
 use Rattle.sheet.specs.Printed.{text_room}
-use Rattle.sheet.proofs.Bounds.{bytes_within, text_within, lent}
+use Rattle.sheet.proofs.Bounds.{text_within, lent}
 use Rattle.sheet.proofs.main.Goals as goal
-
-pub slice_bounds-write_sheet-end : goal.slice_bounds-write_sheet-end
-slice_bounds-write_sheet-end c = bytes_within _ c.in_ok-length.was c.read_input.ensures
 
 pub slice_bounds-write_sheet-end-2 : goal.slice_bounds-write_sheet-end-2
 slice_bounds-write_sheet-end-2 c = sym (lent text_room)

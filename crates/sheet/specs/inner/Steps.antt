@@ -1,9 +1,7 @@
 -- What the program's own functions say of the bytes that they moved, and of a machine that can be planned.
 use Rattle.std.specs.Prelude.{◌≡◌, ℕ, ◌≤◌, Result, IfOk, length}
 use Rattle.machine.specs.Runs.{Machine, couples, Starts}
-use Rattle.tables.specs.inner.Fits.{Checked}
-use Rattle.show.specs.declared.Written.{Written}
-use Rattle.show.specs.declared.Written.TheVariants.{All, Short}
+use Rattle.tables.specs.Tables.{Checked}
 use Rattle.sheet.specs.Printed.{text_room}
 
 -- no more bytes came than the buffer has
@@ -16,8 +14,3 @@ pub record Ready (m : Machine) (room : ℕ) : Type 0 where
   pub started : (((v : ℕ) × Starts m v) → ⊥) → ⊥
   pub exact : length m.table ≡ couples m
   pub roomy : text_room ≤ room
-
--- all of a text was written
-abbrev pub Whole : Written → Type 0
-Whole (All n) = Unit {0}
-Whole Short = ⊥

@@ -1,27 +1,44 @@
 -- `shorten` judges the table and the plan in turn, and on success both passes go over the bytes.
+use Rattle.std.proofs.Common.{rules, ◌≡◌, refl, subst, Err}
 use Rattle.sets.proofs.Members.{zeros}
+use Rattle.verdict.proofs.Fills.{written_done}
+use Rattle.verdict.specs.Refusals.{refused_by}
 use Rattle.machine.specs.Limits.{most_couples}
-use Rattle.machine.specs.Runs.{machine_of}
-use Rattle.shorten.proofs.Outcomes.{no_table, no_runs, ground, split, done}
+use Rattle.machine.proofs.Sizes.{couples_few}
+use Rattle.shorten.specs.Shortening.{ShortenedAs}
+use Rattle.shorten.proofs.Outcomes.{no_runs, split, done}
 use Rattle.shorten.proofs.shorten.Goals as goal
 
-pub returns-then-moves-ne0 : goal.returns-then-moves-ne0
-returns-then-moves-ne0 c = let a = c.args in no_table (machine_of a.frame a.table.now) a.plan.now c.check_table-moves.ensures c.if-moves-ne0.true
-
-pub returns-then-runs-ne0 : goal.returns-then-runs-ne0
-returns-then-runs-ne0 c = let a = c.args in no_runs (machine_of a.frame a.table.now) a.plan.now c.check_table-moves.ensures c.if-moves-ne0.false c.check_plan-runs.ensures c.if-runs-ne0.true
-
-pub mark_all-requires : goal.mark_all-requires
-mark_all-requires c =
+pub returns-in_err-check_plan : goal.returns-in_err-check_plan
+returns-in_err-check_plan c =
+    let sound = c.in_ok-sound.ensures in
     let a = c.args in
-    let m = machine_of a.frame a.table.now in
-    record { ground = (ground m a.plan.now c.check_table-moves.ensures c.if-moves-ne0.false c.check_plan-runs.ensures, split m a.plan.now c.check_table-moves.ensures c.if-moves-ne0.false c.check_plan-runs.ensures c.if-runs-ne0.false); by_index = zeros most_couples }
+    let r = c.in_err-check_plan.field-0.0 in
+    let same : c.from_residual-in_err-check_plan.result ≡ Err r = search rules in
+    rw same
+    (subst (λ m. ShortenedAs m a.plan.now (refused_by r) a.plan.now) c.single-job.ensures.0
+    (no_runs r (rw sound.job at c.in_ok-sound.sound.checked.tabled) sound.verdict c.in_err-check_plan.ensures))
 
-pub keep-bytes-requires : goal.keep-bytes-requires
-keep-bytes-requires c =
-    let a = c.args in
-    let m = machine_of a.frame a.table.now in
-    record { ground = (rw c.mark_all.ensures.few.1 (ground m a.plan.now c.check_table-moves.ensures c.if-moves-ne0.false c.check_plan-runs.ensures), split m a.plan.now c.check_table-moves.ensures c.if-moves-ne0.false c.check_plan-runs.ensures c.if-runs-ne0.false); tells = (c.mark_all.ensures.tells, c.mark_all.ensures.few.0) }
+pub mark_all-requires-clause-runs : goal.mark_all-requires-clause-runs
+mark_all-requires-clause-runs c =
+    let sound = c.in_ok-sound.ensures in
+    rw sound.job (split (rw sound.job at c.in_ok-sound.sound.checked.tabled) c.in_ok-check_plan.ensures)
+
+pub mark_all-requires-clause-fresh : goal.mark_all-requires-clause-fresh
+mark_all-requires-clause-fresh c = record { room = couples_few c.in_ok-sound.sound.checked.tabled.sized; none = zeros most_couples }
+
+pub keep-requires-clause-runs : goal.keep-requires-clause-runs
+keep-requires-clause-runs c =
+    let sound = c.in_ok-sound.ensures in
+    rw (c.mark_all.ensures.same, sound.job) (split (rw sound.job at c.in_ok-sound.sound.checked.tabled) c.in_ok-check_plan.ensures)
 
 pub returns : goal.returns
-returns c = let a = c.args in done (machine_of a.frame a.table.now) a.plan.now c.check_table-moves.ensures c.if-moves-ne0.false c.check_plan-runs.ensures c.if-runs-ne0.false c.keep-bytes.ensures
+returns c =
+    let job = c.single-job.ensures.0 in
+    let sound = c.in_ok-sound.ensures in
+    let kept = rw (c.mark_all.ensures.same, sound.job) at c.keep.ensures in
+    let a = c.args in
+    subst (λ m. ShortenedAs m a.plan.now (record { number = 0; place = c.keep.result }) c.keep.new.plan) job (record {
+      verdict = done (rw sound.job at c.in_ok-sound.sound.checked.tabled) c.in_ok-check_plan.ensures sound.verdict kept;
+      plan = written_done refl kept.front kept.shortened;
+    })

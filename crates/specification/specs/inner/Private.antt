@@ -1,5 +1,5 @@
 -- What private functions require and answer.
-use Rattle.std.specs.Prelude.{◌≡◌, true, false, cond, List, ◌∷◌, ◌++◌, ℕ, ◌+◌, ◌-◌, ◌≤◌, ◌<◌, length, get_or, ltb}
+use Rattle.std.specs.Prelude.{◌≡◌, cond, List, ◌∷◌, ◌++◌, ℕ, ◌+◌, ◌-◌, ◌≤◌, ◌<◌, length, get_or, ltb}
 use Rattle.verdict.specs.Checks.{Check, check, Judged, Passed}
 use Rattle.verdict.specs.Buffers.{Left}
 use Rattle.verdict.specs.declared.Answer.{Answer}
@@ -9,15 +9,12 @@ use Rattle.machine.specs.Moves.{table_moves, Stateless, Transient}
 use Rattle.machine.specs.Runs.{Machine, size}
 use Rattle.tables.specs.Tables.{state_checks}
 use Rattle.specification.specs.Limits.{most_bytes, blank_move, blank_word}
-use Rattle.specification.specs.File.{count_of, kind_of, length_of, start_of, kinds, starts_kind, Has, WellFormed}
-use Rattle.specification.specs.Records.{word, settings, couples, records, record_at, sizes_of, Ranges, Beyond, Own, Twice}
+use Rattle.specification.specs.File.{count_of, kind_of, kinds, starts_kind, Has, WellFormed}
+use Rattle.specification.specs.Records.{word, source, target, text_length, settings, couples, records, record_at, Ranges}
 use Rattle.specification.specs.Rules.{text_at, rule_of, Fires, MoveAt, HoldsIn}
-use Rattle.specification.specs.Reading.{record_checks, rule_checks, move_checks, CharacterFor, refusal_of, ContentsOf, ReadHere}
-use Rattle.specification.specs.declared.file.Bodies.{Bodies}
+use Rattle.specification.specs.Reading.{record_checks, rule_checks, move_checks}
 use Rattle.specification.specs.declared.records.Sizes.{Sizes}
-use Rattle.specification.specs.declared.records.RecordCheck.{RecordCheck}
-use Rattle.specification.specs.declared.records.RecordCheck as RecordCheck
-use Rattle.specification.specs.declared.answers.Core.{Core}
+use Rattle.evolutions.specs.declared.Evolution.{Evolution}
 
 -- so many entries at most: their kinds rise from 1 to 6
 abbrev pub most_kinds : ℕ
@@ -29,17 +26,11 @@ pub record KindFits (file : List ℕ) (k : ℕ) : Type 0 where
   pub rising : kinds ≤ k → kind_of file (k - 1) < kind_of file k
   pub known : kind_of file k ≤ starts_kind
 
--- the bodies as they are decoded: how many entries there are, where the body of each begins, and how long it is
-pub record Decoded (file : List ℕ) (b : Bodies) : Type 0 where
-  pub count : b.count ≡ count_of file
-  pub at : (k : ℕ) → k < count_of file → get_or b.at k 0 ≡ start_of file k
-  pub long : (k : ℕ) → k < count_of file → get_or b.length k 0 ≡ length_of file k
-
--- the checks of single records: refusals 4, 6 and 7 at record r
-abbrev pub Wrong : List ℕ → Sizes → RecordCheck → ℕ → Type 0
-Wrong file z RecordCheck.TheVariants.Beyond r = Beyond file z r
-Wrong file z RecordCheck.TheVariants.Own r = Own file z r
-Wrong file z RecordCheck.TheVariants.Twice r = Twice file z r
+-- what the records of a file need: they lie in it, by sizes that are in their ranges
+pub record Inside (file : List ℕ) (z : Sizes) : Type 0 where
+  pub ranges : Ranges z
+  pub within : record_at z (records z) ≤ length file
+  pub few : length file ≤ most_bytes
 
 -- what a file that passes 1 and 2 has: the texts of its records lie in it
 pub record Laid (file : List ℕ) (z : Sizes) : Type 0 where
@@ -99,24 +90,6 @@ pub record SoundAs (file : List ℕ) (z : Sizes) (table₀ words₀ : List ℕ) 
   pub table : Left a.number (couples z) blank_move (MoveAt file z (settings z)) table₀ table₁
   pub words : Left a.number z.states blank_word (λ s w. w ≡ word file z s) words₀ words₁
 
--- what is answered and handed on of a file that passes 1 to 3, by what 4 to 13 answer
-pub record OutcomeAs (file : List ℕ) (z : Sizes) (a : Answer) (r : Core) : Type 0 where
-  pub answer : r.contents.answer ≡ a
-  pub character : CharacterFor file z a r.contents.character
-  pub refused : (a.number ≡ 0 → ⊥) → (r.contents ≡ refusal_of a r.contents.character) × (r.good ≡ false)
-  pub done : a.number ≡ 0 → ContentsOf file z r.contents × (r.good ≡ true)
-  pub from : r.from ≡ record_at z z.states
-  pub text : r.text ≡ text_at file z z.states
-  pub count : r.count ≡ z.evolutions
-
--- what there is to hand on: nothing after 1 to 3, so many zero records after 4 to 13, the evolutions on success
-pub record Handing (file : List ℕ) (z : Sizes) (r : Core) : Type 0 where
-  pub nothing : 1 ≤ r.contents.answer.number → r.contents.answer.number ≤ 3 → r.count ≡ 0
-  pub zeros : 4 ≤ r.contents.answer.number → (r.count ≡ z.evolutions) × (r.good ≡ false)
-  pub all : r.contents.answer.number ≡ 0 → (r.count ≡ z.evolutions) × (r.good ≡ true) × (r.from ≡ record_at z z.states) × (r.text ≡ text_at file z z.states)
-  pub places : 0 < r.count → Laid file z × (r.count ≡ z.evolutions) × (r.from ≡ record_at z z.states) × (r.text ≡ text_at file z z.states)
-
-pub record CoreAs (file table₀ words₀ : List ℕ) (room : ℕ) (r : Core) (table₁ words₁ : List ℕ) : Type 0 where
-  pub here : ReadHere file table₀ words₀ room r.contents table₁ words₁
-  pub fits : r.count ≤ room
-  pub hands : Handing file (sizes_of file) r
+-- the evolution with record r, its text at `at`
+abbrev pub evolution_at : List ℕ → Sizes → ℕ → ℕ → Evolution
+evolution_at file z r at = record { source = source file z r; target = target file z r; at = at; length = text_length file z r }

@@ -1,8 +1,6 @@
--- What the searches of a table rely on, and what a table that passed 2, 3, 4 and 10 has.
+-- What the searches of a table rely on.
 use Rattle.std.specs.Prelude.{List, ℕ, ◌*◌, ◌≤◌, ◌<◌, length, get_or}
 use Rattle.machine.specs.Limits.{most_states, most_settings}
-use Rattle.machine.specs.Runs.{Machine, Sound}
-use Rattle.tables.specs.Tables.{Tabled}
 
 -- at most as many states and settings as a machine may have
 pub record Small (states settings : ℕ) : Type 0 where
@@ -15,8 +13,3 @@ pub record Fit (table : List ℕ) (states settings initial : ℕ) : Type 0 where
   pub begins : initial < states
   pub long : states * settings ≤ length table
   pub inside : (p : ℕ) → p < states * settings → get_or table p 0 < states
-
--- refusals 2, 3, 4 and 10 do not apply
-pub record Checked (m : Machine) : Type 0 where
-  pub tabled : Tabled m
-  pub sound : Sound m

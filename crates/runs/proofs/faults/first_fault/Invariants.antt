@@ -1,11 +1,7 @@
-use Prim.Native.Nat.{◌-◌, ◌≤◌}
-use lib.ListN.{length}
 use Rattle.verdict.proofs.Tests.{Unseen}
-use Rattle.machine.specs.Runs.{machine_by, Fault}
+use Rattle.machine.specs.Runs.{Fault}
+use Rattle.tables.specs.Tables.{machine_in}
 use Rattle.runs.proofs.faults.first_fault.Given as goal
 
 abbrev pub invariant-loop-i : goal.invariant-loop-i
-invariant-loop-i l = (1 ≤ l.i) × (l.i ≤ length l.run) × Unseen (Fault (machine_by l.several l.frame l.table) l.run) l.i
-
-abbrev pub decreases-loop-i : goal.decreases-loop-i
-decreases-loop-i l = length l.run - l.i
+invariant-loop-i l = Unseen (Fault (machine_in l.sized.job) l.run) l.i

@@ -1,16 +1,11 @@
 -- `check_plan` finds nothing broken where the table is not fit, and otherwise the first broken byte.
+use Rattle.std.specs.Prelude.{Some, None}
 use Rattle.verdict.proofs.Order.{pass, halt, ends}
-use Rattle.verdict.proofs.Tests.{at_least, found_none, within}
+use Rattle.verdict.proofs.Tests.{within}
 use Rattle.runs.proofs.stored.check_plan.Goals as goal
 
-pub returns-then-not-tabled : goal.returns-then-not-tabled
-returns-then-not-tabled c = pass (record { nowhere = λ p x. c.tabled.ensures.fails c.if-not-tabled.true x.fit }) ends
+pub returns-in-Some : goal.returns-in-Some
+returns-in-Some c = rw (← c.in-Ok.ensures.job) (halt (within _ (Some _) c.in-Ok.sized.tabled c.in-Some.ensures))
 
-pub first_broken-requires : goal.first_broken-requires
-first_broken-requires c = c.tabled.ensures.holds c.if-not-tabled.false
-
-pub returns-in-At : goal.returns-in-At
-returns-in-At c = halt (at_least (within (c.tabled.ensures.holds c.if-not-tabled.false) c.first_broken.ensures) c.in-At.is)
-
-pub returns : goal.returns
-returns c = pass (found_none (within (c.tabled.ensures.holds c.if-not-tabled.false) c.first_broken.ensures) c.in_default.is) ends
+pub returns-in-None : goal.returns-in-None
+returns-in-None c = rw (← c.in-Ok.ensures.job) (pass (within _ None c.in-Ok.sized.tabled c.in-None.ensures) ends)

@@ -1,18 +1,19 @@
 -- `read_sound` blanks both buffers after a refusal by 4 to 13, and leaves them filled otherwise.
+use native.Mathlib.Omega.{arith}
 use mathlib.Core.Path.{refl}
 use mathlib.Core.Logic.{inl}
 use Rattle.verdict.proofs.Order.{judged_number}
-use Rattle.verdict.proofs.Fills.{filled_at, filled_map, left_blank, left_filled}
+use Rattle.verdict.proofs.Fills.{filled_at, left_blank, left_filled}
+use Rattle.verdict.proofs.Refusals.{refusal_number}
 use Rattle.specification.proofs.reading.read_sound.Goals as goal
 
-pub returns-then-a-ne0 : goal.returns-then-a-ne0
-returns-then-a-ne0 c = let k = judged_number 4 13 c.settle-a.ensures.judged refl c.if-a-ne0.true in
-    record {
-      judged = c.settle-a.ensures.judged;
-      table = left_blank k.0 k.1 c.settle-a.ensures.table (filled_at c.blank_table.ensures c.couples.ensures);
-      words = left_blank k.0 k.1 c.settle-a.ensures.words c.blank_words.ensures;
-    }
+pub returns-in-Ok : goal.returns-in-Ok
+returns-in-Ok c = record { judged = c.in-Ok.ensures.judged; table = left_filled (inl refl) c.in-Ok.ensures.table; words = left_filled (inl refl) c.in-Ok.ensures.words }
 
-pub returns-else-a-ne0 : goal.returns-else-a-ne0
-returns-else-a-ne0 c = let e = c.if-a-ne0.false in
-    record { judged = c.settle-a.ensures.judged; table = left_filled (inl e) (filled_map (λ k x h y. y e) c.settle-a.ensures.table); words = left_filled (inl e) (filled_map (λ k x h y. y e) c.settle-a.ensures.words) }
+pub returns-in-Err : goal.returns-in-Err
+returns-in-Err c = let k = judged_number 4 13 c.in-Err.ensures.judged refl (λ e. omega (arith, refusal_number c.in-Err.refusal)) in
+    record {
+      judged = c.in-Err.ensures.judged;
+      table = left_blank k.0 k.1 c.in-Err.ensures.table (filled_at c.blank_table.ensures c.couples.ensures);
+      words = left_blank k.0 k.1 c.in-Err.ensures.words c.blank_words.ensures;
+    }

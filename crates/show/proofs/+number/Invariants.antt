@@ -1,5 +1,0 @@
--- The number falls with each digit.
-use Rattle.show.proofs.+number.Given as goal
-
-abbrev pub decreases-number : goal.decreases-number
-decreases-number l = l.n
