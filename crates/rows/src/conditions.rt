@@ -1,6 +1,7 @@
 // The rows about conditions: for each text 0 0 where it reads, 5 and the character where it does not.
 use condition::Unread;
 use std::io;
+use verdict::Refusal;
 
 pub(crate) fn rows(out: &impl Print) -> io::Result<()> {
     row(out, "unread", &[(b"a+", 2), (b"()", 2), (b"c", 2)])?;
@@ -39,7 +40,7 @@ fn row(out: &impl Print, what: &str, texts: &[(&[u8], usize)]) -> io::Result<()>
     for &(text, inputs) in texts {
         let (number, character) = match condition::read(text, inputs, 0) {
             Ok(_) => (0, 0),
-            Err(Unread { character }) => (5, character),
+            Err(Unread { character }) => (Refusal::Unread(0).number(), character),
         };
         print!(out; " | {number} {character}")?;
     }

@@ -97,8 +97,8 @@ fn longest(out: &impl Print) -> io::Result<()> {
 // A file of so many bytes, at most one more than a file may have: its contents and kind 1, then zeros.
 fn zeros(out: &impl Print, what: &str, contents: &[u8], count: usize) -> io::Result<()> {
     let mut file = [0; BYTES + 1];
-    for (byte, &given) in file.iter_mut().zip(contents) {
-        *byte = given;
+    if let Some(front) = file.get_mut(..contents.len()) {
+        front.copy_from_slice(contents);
     }
     if let Some(file) = file.get(..count) {
         read(out, what, file)?;

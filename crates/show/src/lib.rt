@@ -5,7 +5,7 @@
 mod ranks;
 mod text;
 
-ghost use Rattle.std.specs.Prelude.{◌≡◌, MatchOption, Some, None};
+ghost use Rattle.std.specs.Prelude.{◌≡◌, ◌+◌, ◌*◌, MatchOption, Some, None};
 ghost use Rattle.machine.specs.Plans.{runs_in};
 ghost use Rattle.several.specs.Lists.{list_in};
 ghost use Rattle.show.specs.Sheet.{count_of, first_line, rank_line, rank_lines, run_line, run_lines, multi_lines, ranks_in, sheet_text, refusal_text};
@@ -117,7 +117,7 @@ impl Text<'_> {
     {
         let mut rest = list;
         while let [low, high, stored @ ..] = rest {
-            let count = usize::from(*high) * 256 + usize::from(*low);
+            let count = two_bytes(*low, *high);
             let Some((settings, others)) = first_run(stored) else {
                 return Ok(());
             };
@@ -144,6 +144,13 @@ fn first_run(stored: &[u8]) -> Option<(&[u8], &[u8])>
     let [low, high, rest @ ..] = stored else {
         return None;
     };
-    let count = usize::from(*high) * 256 + usize::from(*low);
+    let count = two_bytes(*low, *high);
     Some(rest.split_at(count.min(rest.len())))
+}
+
+// A number in two bytes, low byte first.
+fn two_bytes(low: u8, high: u8) -> usize
+    ensures { result ≡ high * 256 + low }
+{
+    usize::from(u16::from_le_bytes([low, high]))
 }
