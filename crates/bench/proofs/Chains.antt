@@ -2,29 +2,26 @@
 -- the first test passes are the entries kept within the list.
 use Prim.Native.Nat.{ℕ, zero, suc, ◌+◌, ◌≤◌, ◌<◌, min}
 use native.Mathlib.Omega.{arith}
-use native.Mathlib.Nat.{zero-add}
 use native.Mathlib.Numerals.{add-one}
-use mathlib.Core.Path.{◌≡◌, refl, sym, ap, ap₂, ◌∙◌}
+use mathlib.Core.Path.{◌≡◌, refl, sym, ap, ◌∙◌}
 use mathlib.Core.Bool.{Bool, true, false, cond, ◌&&◌, and_comm}
 use mathlib.Core.List.{List}
 use lib.Dec.{eqb, leb}
 use lib.ListN.{length, get_or, take}
 use lib.Seq.{take_all}
+use lib.Pointwise.{pointwise, bytes_decides}
 use borrow.Author.Tests.{eqb-true}
-use Rattle.std.specs.List.{list_all, sum, enumerate_from}
+use Rattle.std.specs.List.{list_all, sum}
 use Rattle.std.proofs.lemmas.List.Folds.{list_all_more}
 use Rattle.std.proofs.lemmas.List.Sums.{sum_by_more}
-use Rattle.std.proofs.lemmas.List.FromFn.{length-enumerate_from, get_or-enumerate_from}
 use Rattle.basics.specs.Words.{most_outputs}
 use Rattle.verdict.specs.Below.{every, sum_to}
+use Rattle.verdict.proofs.Tests.{true≢false, decides_equal, decides_unique}
+use Rattle.verdict.proofs.Below.{decides_every, list_at, list_is}
 use Rattle.bench.specs.declared.Log.{Log}
 use Rattle.bench.specs.Readings.{differs, times}
 use Rattle.bench.specs.Log.{most_entries, sound, blank, kept_of, entry_at, count_at}
-
-every_same : (n : ℕ) (f g : ℕ → Bool) → ((i : ℕ) → i < n → f i ≡ g i) → every n f ≡ every n g
-unfolding every
-every_same zero f g e = refl
-every_same (suc n) f g e = ap₂ ◌&&◌ (e n (omega arith)) (every_same n f g (λ i h. e i (omega arith)))
+use Rattle.bench.proofs.Differing.{counts_of}
 
 module _ {A : Type 0} (p : A → Bool) (d : A) (xs : List A) where
   first_pass : (n : ℕ) → n ≤ length xs → list_all p (take n xs) ≡ every n (λ i. p (get_or xs i d))
@@ -53,12 +50,17 @@ module _ (l : Log) where
   total_is : length l.outputs ≡ most_outputs → sum l.outputs ≡ sum_to (count_at l) most_outputs
   total_is e = sum_is l.outputs most_outputs e
 
-  counted_is : length l.outputs ≡ most_outputs → list_all (λ (e : ℕ × ℕ). eqb e.1 (times (kept_of l) e.0)) (enumerate_from 0 l.outputs) ≡ every most_outputs (λ j. eqb (count_at l j) (times (kept_of l) j))
-  counted_is e =
-      let p : ℕ × ℕ → Bool = λ x. eqb x.1 (times (kept_of l) x.0) in
-      let counted : (j : ℕ) → j < most_outputs → p (get_or (enumerate_from 0 l.outputs) j (0, 0)) ≡ eqb (count_at l j) (times (kept_of l) j)
-      = λ j h. ap p (get_or-enumerate_from 0 l.outputs j (0, 0) (omega arith)) ∙ rw zero-add refl in
-      all_pass p (0, 0) (enumerate_from 0 l.outputs) most_outputs (length-enumerate_from 0 l.outputs ∙ e) ∙ every_same most_outputs _ _ counted
+  -- lists of counts are equal where each count is
+  pub counted_by : (b : Bool) → length l.outputs ≡ most_outputs → b ≡ pointwise eqb l.outputs (counts_of (kept_of l)) → b ≡ every most_outputs (λ j. eqb (count_at l j) (times (kept_of l) j))
+  counted_by b o same =
+      let counted = times (kept_of l) in
+      let equal = bytes_decides l.outputs (counts_of (kept_of l)) in
+      decides_unique ((j : ℕ) → j < most_outputs → count_at l j ≡ counted j) b (every most_outputs (λ j. eqb (count_at l j) (counted j)))
+      (record {
+        holds = λ t j h. ap (λ xs. get_or xs j 0) (equal.0 (sym same ∙ t)) ∙ list_at counted most_outputs j h;
+        fails = λ f each. true≢false (sym (equal.1 (list_is l.outputs counted most_outputs o each)) ∙ sym same ∙ f);
+      })
+      (decides_every most_outputs _ (λ j. count_at l j ≡ counted j) (λ j. decides_equal (count_at l j) (counted j)))
 
   -- the test of soundness, as the chains make it
   abbrev pub tested : Bool
@@ -68,7 +70,7 @@ module _ (l : Log) where
       && list_all differs (kept_of l)
       && list_all (λ n. leb n l.differing) l.outputs
       && leb l.differing (sum l.outputs)
-      && cond (leb l.differing most_entries) (list_all (λ (e : ℕ × ℕ). eqb e.1 (times (kept_of l) e.0)) (enumerate_from 0 l.outputs)) true
+      && cond (leb l.differing most_entries) (every most_outputs (λ j. eqb (count_at l j) (times (kept_of l) j))) true
 
   pub sound_by : (b : Bool) → length l.entries ≡ most_entries → length l.outputs ≡ most_outputs → b ≡ tested → b ≡ sound l
   sound_by b e o same = same ∙ go (eqb l.kept (min most_entries l.differing)) refl
@@ -77,7 +79,7 @@ module _ (l : Log) where
       rest a b c n d = a && leb l.differing l.readings && b && c && leb l.differing n && cond (leb l.differing most_entries) d true
 
       go : (a : Bool) → eqb l.kept (min most_entries l.differing) ≡ a
-          → rest a (list_all differs (kept_of l)) (list_all (λ n. leb n l.differing) l.outputs) (sum l.outputs) (list_all (λ (x : ℕ × ℕ). eqb x.1 (times (kept_of l) x.0)) (enumerate_from 0 l.outputs))
+          → rest a (list_all differs (kept_of l)) (list_all (λ n. leb n l.differing) l.outputs) (sum l.outputs) (every most_outputs (λ j. eqb (count_at l j) (times (kept_of l) j)))
           ≡ rest a (every l.kept (λ i. differs (entry_at l i))) (every most_outputs (λ j. leb (count_at l j) l.differing)) (sum_to (count_at l) most_outputs) (every most_outputs (λ j. eqb (count_at l j) (times (kept_of l) j)))
       go false q = refl
-      go true q = rw (differ_is (omega (arith, eqb-true l.kept (min most_entries l.differing) q)), within_is o, total_is o, counted_is o) refl
+      go true q = rw (differ_is (omega (arith, eqb-true l.kept (min most_entries l.differing) q)), within_is o, total_is o) refl

@@ -10,6 +10,7 @@ use lib.Dec.{eqb}
 use lib.ListN.{length, get_or, replicate, length-append}
 use borrow.Author.Tests.{eqb-true, eqb-false, eq-eqb, not-false, not-true}
 use Rattle.std.proofs.lemmas.List.Elements.{filter-append}
+use Rattle.std.proofs.lemmas.List.Filters.{length-filter_both}
 use Rattle.basics.specs.Words.{most_outputs}
 use Rattle.verdict.specs.Below.{sum_to, list_to}
 use Rattle.verdict.proofs.Below.{sum_below, list_at, list_same}
@@ -37,6 +38,10 @@ counts_of rs = list_to (times rs) most_outputs
 pub counts_none : counts_of [] ≡ replicate most_outputs 0
 unfolding list_to
 counts_none = refl
+
+-- no more are counted than there are
+pub counts_few : (rs : List Reading) (j : ℕ) → j < most_outputs → get_or (counts_of rs) j 0 ≤ length rs
+counts_few rs j h = rw (list_at (times rs) most_outputs j h) (omega (arith, length-filter_both (differs_in j) (λ r. not (differs_in j r)) (λ r. refl) rs))
 
 pub counts_snoc : (rs : List Reading) (r : Reading) → list_to (λ j. get_or (counts_of rs) j 0 + one_if (differs_in j r)) most_outputs ≡ counts_of (rs ++ r ∷ [])
 counts_snoc rs r = list_same _ _ most_outputs (λ j h. ap (λ t. t + one_if (differs_in j r)) (list_at (times rs) most_outputs j h) ∙ sym (count_snoc (differs_in j) rs r))

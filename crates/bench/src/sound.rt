@@ -1,11 +1,13 @@
 // Whether a log is sound, and whether it is refused.
-ghost use Rattle.std.specs.Prelude.{◌≡◌, ◌<◌, true, false, sum, leb, eqb, MatchResult};
-ghost use Rattle.std.specs.List.{list_all, enumerate_from};
+ghost use Rattle.std.specs.Prelude.{◌≡◌, ◌≤◌, true, false, sum, leb, eqb, MatchResult};
+ghost use Rattle.std.specs.List.{list_all};
 ghost use Rattle.basics.specs.Words.{most_outputs};
+ghost use Rattle.verdict.specs.Below.{every, list_to};
 ghost use Rattle.bench.specs.Readings.{differs, times};
-ghost use Rattle.bench.specs.Log.{kept_of, sound, refuses};
+ghost use Rattle.bench.specs.Log.{most_entries, kept_of, count_at, sound, refuses};
 
 use crate::{ENTRIES, Log, READINGS};
+use basics::OUTPUTS;
 use verdict::Refusal;
 
 impl Log {
@@ -59,23 +61,21 @@ impl Log {
 
     // Whether each count is that of the entries kept.
     fn all_counted(&self) -> bool
-        ensures { result ≡ list_all (λ e. eqb e.1 (times (kept_of self.now) e.0)) (enumerate_from 0 self.now.outputs) }
+        requires { self.now.kept ≤ most_entries }
+        ensures { result ≡ every most_outputs (λ j. eqb (count_at self.now j) (times (kept_of self.now) j)) }
     {
-        self.outputs
-            .iter()
-            .enumerate()
-            .all(|(output, &count)| count as usize == self.times(output))
+        self.outputs == self.counts()
     }
 
-    // In how many of the entries kept this output differed.
-    fn times(&self, output: usize) -> usize
-        requires { output < most_outputs }
-        ensures { result ≡ times (kept_of self.now) output }
+    // In how many of the entries kept each output differed.
+    fn counts(&self) -> [u32; OUTPUTS]
+        requires { self.now.kept ≤ most_entries }
+        ensures { result ≡ list_to (times (kept_of self.now)) most_outputs }
     {
-        self.entries
-            .iter()
-            .take(self.kept as usize)
-            .filter(|entry| entry.differs_in(output))
-            .count()
+        let mut counts = [0; OUTPUTS];
+        for i in 0..self.kept as usize {
+            self.entries[i].count(&mut counts);
+        }
+        counts
     }
 }

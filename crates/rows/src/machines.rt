@@ -13,7 +13,7 @@ pub(crate) struct Machine<'a> {
 
 impl<'a> Machine<'a> {
     // What a file reads as, into room that is lent.
-    pub fn read(file: &[u8], table: &'a mut [u8], words: &'a mut [u16]) -> Self {
+    pub(crate) fn read(file: &[u8], table: &'a mut [u8], words: &'a mut [u16]) -> Self {
         let frame = specification::read_here(file, table, words).frame;
         Machine {
             frame,
@@ -23,7 +23,7 @@ impl<'a> Machine<'a> {
     }
 
     // With other allowed starts.
-    pub fn started(self, starts: [u64; WORDS]) -> Self {
+    pub(crate) fn started(self, starts: [u64; WORDS]) -> Self {
         Machine {
             frame: Frame {
                 starts,

@@ -43,7 +43,7 @@ fn lamp_readings(out: &impl Print) -> io::Result<()> {
 
 impl Machine<'_> {
     // The plan, behind the ranks.
-    pub fn planned(self, out: &impl Print, what: &str, room: &mut [u8]) -> io::Result<()> {
+    pub(crate) fn planned(self, out: &impl Print, what: &str, room: &mut [u8]) -> io::Result<()> {
         let mut ranks = [7; 5];
         let told = plan::plan(self.frame, self.table, &mut ranks, room);
         println!(out;
@@ -55,7 +55,9 @@ impl Machine<'_> {
     }
 
     // The run to a couple, by single changes or by multiple ones.
-    pub fn run_to<F: Fn(Frame, &[u8], &mut [u16], usize, &mut [u8]) -> Result<usize, Refusal>>(
+    pub(crate) fn run_to<
+        F: Fn(Frame, &[u8], &mut [u16], usize, &mut [u8]) -> Result<usize, Refusal>,
+    >(
         self,
         out: &impl Print,
         what: impl fmt::Display + Drop,
@@ -70,7 +72,9 @@ impl Machine<'_> {
     }
 
     // The expected readings of a list of settings, likewise.
-    pub fn readings<F: Fn(Frame, &[u8], &[u16], &[u8], &mut [u16]) -> Result<usize, Refusal>>(
+    pub(crate) fn readings<
+        F: Fn(Frame, &[u8], &[u16], &[u8], &mut [u16]) -> Result<usize, Refusal>,
+    >(
         self,
         out: &impl Print,
         what: impl fmt::Display + Drop,

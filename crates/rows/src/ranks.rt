@@ -16,7 +16,7 @@ pub(crate) fn rows(out: &impl Print) -> io::Result<()> {
 
 impl Machine<'_> {
     // The answer of marking, the ranks of each state, and their counts up to the highest.
-    pub fn published(
+    pub(crate) fn published(
         self,
         out: &impl Print,
         what: &str,
@@ -34,7 +34,7 @@ impl Machine<'_> {
     }
 
     // The answer of marking, and what the ranks hold, 7 before.
-    pub fn marked(self, out: &impl Print, what: impl fmt::Display + Drop) -> io::Result<()> {
+    pub(crate) fn marked(self, out: &impl Print, what: impl fmt::Display + Drop) -> io::Result<()> {
         let mut ranks = [7; 5];
         let told = marking::mark(self.frame, self.table, &mut ranks);
         answered(out, what, told, &ranks)

@@ -50,7 +50,7 @@ fn gate_plan(out: &impl Print) -> io::Result<()> {
 
 impl Machine<'_> {
     // A plan, shortened in place.
-    pub fn shortened(
+    pub(crate) fn shortened(
         self,
         out: &impl Print,
         what: impl fmt::Display + Drop,
