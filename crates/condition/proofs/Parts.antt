@@ -252,3 +252,17 @@ module _ (j : Join) {n d : ℕ} {s : List ℕ} {at : ℕ} where
               (λ u r e y. split x.reading.tree u y.tree r e (sym (snoc u) ∙ y.spelt) y.nested y.known)
               (part_fails j f.failed));
         }
+
+-- where a part is to be read next: at the beginning, with what changes nothing, or behind the parts before it and the byte that joins it to them
+pub data Begun (j : Join) (n v d : ℕ) (s : List ℕ) (at : ℕ) (b : Bool) (from : ℕ) : Type 0 where
+  none : from ≡ at → ((c : Bool) → joins j b c ≡ c) → Begun j n v d s at b from
+  some : {end : ℕ} → from ≡ end + 1 → Joined j n v d s at b end → At s end (byte j) → Begun j n v d s at b from
+
+module _ (j : Join) {n v d : ℕ} {s : List ℕ} {at : ℕ} {b : Bool} {from : ℕ} where
+  pub begun_more : {c : Bool} {end : ℕ} → Begun j n v d s at b from → FoundTo (part j) n v d s from c end → Joined j n v d s at (joins j b c) end
+  begun_more {c} (none e u) y = rw (u c) (join_first j (rw e at y))
+  begun_more (some e x h) y = join_more j x h (rw e at y)
+
+  pub begun_fails : {place : ℕ} → Begun j n v d s at b from → FailedAt (part j) n d s from place → FailedAt (joined j) n d s at place
+  begun_fails (none e u) f = join_none j (rw e at f)
+  begun_fails (some e x h) f = join_fails j x h (rw e at f)

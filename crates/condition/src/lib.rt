@@ -4,10 +4,10 @@
 // come round again only inside a parenthesis.
 #![tactic(auto)]
 
-ghost use Rattle.std.specs.Prelude.{◌≡◌, ◌+◌, ◌==◌, drop};
+ghost use Rattle.std.specs.Prelude.{◌≡◌, ◌+◌, ◌==◌, Bool, drop};
 ghost use Rattle.std.specs.List.{prefix_len};
 ghost use Rattle.verdict.specs.Checks.{Decides};
-ghost use Rattle.condition.specs.Grammar.{factor as factor_level, joined as joined_level, byte as byte_of, joins};
+ghost use Rattle.condition.specs.Grammar.{factor as factor_level, joined as joined_level, or, and, byte as byte_of, joins};
 ghost use Rattle.condition.specs.Condition.{Says, Holds};
 ghost use Rattle.condition.specs.inner.Parts.{code, At, join_of, level_of, Found};
 
@@ -59,7 +59,7 @@ pub fn read(text: &[u8], inputs: usize, setting: usize) -> Result<bool, Unread>
         setting,
         opened: 0,
     };
-    match reader.joined(Join::Or, 0) {
+    match reader.condition(0) {
         Err(stop) => Err(Unread {
             character: stop.place + 1,
         }),
@@ -95,6 +95,16 @@ impl Join {
         }
     }
 
+    // What is joined to a part and changes nothing.
+    fn unit(self) -> bool
+        ensures { (b : Bool) → joins (join_of self) result b ≡ b }
+    {
+        match self {
+            Join::Or => false,
+            Join::And => true,
+        }
+    }
+
     // What two parts say, joined.
     fn of(self, first: bool, second: bool) -> bool
         ensures { result ≡ joins (join_of self) first second }
@@ -107,29 +117,51 @@ impl Join {
 }
 
 impl Reader<'_> {
-    // Parts joined: a condition, or a term.
+    // Terms joined by `+`.
     #[cycle(levels)]
+    fn condition(&self, at: usize) -> Result<Part, Stop>
+        ensures { Found (joined_level or) self.now at result }
+    {
+        self.joined(Join::Or, at)
+    }
+
+    // Factors joined by `.`.
+    #[cycle(levels)]
+    fn term(&self, at: usize) -> Result<Part, Stop>
+        ensures { Found (joined_level and) self.now at result }
+    {
+        self.joined(Join::And, at)
+    }
+
+    // Parts joined: a condition, or a term. Inlined in these, as is `part`, so that each has a loop of its own.
+    #[cycle(levels)]
+    #[inline(always)]
     fn joined(&self, join: Join, at: usize) -> Result<Part, Stop>
         ensures { Found (joined_level (join_of join)) self.now at result }
     {
-        let mut all = self.part(join, at)?;
-        while self.stands(all.end, join.byte()) {
-            let next = self.part(join, all.end + 1)?;
-            all = Part {
-                holds: join.of(all.holds, next.holds),
-                end: next.end,
-            };
+        let mut all = join.unit();
+        let mut from = at;
+        loop {
+            let next = self.part(join, from)?;
+            all = join.of(all, next.holds);
+            if !self.stands(next.end, join.byte()) {
+                return Ok(Part {
+                    holds: all,
+                    end: next.end,
+                });
+            }
+            from = next.end + 1;
         }
-        Ok(all)
     }
 
-    // What is joined: terms by `+`, factors by `.`.
+    // What is joined: terms, or factors.
     #[cycle(levels)]
+    #[inline(always)]
     fn part(&self, join: Join, at: usize) -> Result<Part, Stop>
         ensures { Found (level_of join) self.now at result }
     {
         match join {
-            Join::Or => self.joined(Join::And, at),
+            Join::Or => self.term(at),
             Join::And => self.factor(at),
         }
     }
@@ -192,7 +224,7 @@ impl Reader<'_> {
             opened: self.opened + 1,
             ..*self
         };
-        let part = inner.joined(Join::Or, at + 1)?;
+        let part = inner.condition(at + 1)?;
         if !self.stands(part.end, b')') {
             return Err(Stop { place: part.end });
         }

@@ -7,29 +7,23 @@ use Rattle.condition.specs.inner.Parts.{At, FailedAt}
 use Rattle.condition.specs.Condition.{parentheses}
 use Rattle.condition.specs.Grammar.{factor}
 use Rattle.condition.specs.inner.Parts.{join_of}
-use Rattle.condition.proofs.Parts.{behind, negated_found, negated_fails, one_too_many, off_found, on_found, input_found, closed_found, inside_fails, unclosed_fails, join_first, join_none, join_found, join_more, join_fails}
+use Rattle.condition.proofs.Parts.{behind, negated_found, negated_fails, one_too_many, off_found, on_found, input_found, closed_found, inside_fails, unclosed_fails, join_found, begun_more, begun_fails}
+use Rattle.condition.proofs.Parts.Begun.{some}
 use Rattle.condition.proofs.Reader.+levels.Goals as goal
 
 -- parts joined
-pub joined-returns-in_err-all : goal.joined-returns-in_err-all
-joined-returns-in_err-all t c = let f = join_none (join_of c.args.join) c.in_err-all.ensures in search rules
-
-pub joined-loop-join-init : goal.joined-loop-join-init
-joined-loop-join-init t c = join_first (join_of c.args.join) c.in_ok-all.ensures
-
 pub joined-returns-in_err-next : goal.joined-returns-in_err-next
-joined-returns-in_err-next t c =
-    let h = rw c.byte.ensures at (c.stands.ensures.holds c.loop-join-test.true) in
-    let f = join_fails (join_of c.args.join) c.loop-join.invariant h c.in_err-next.ensures in
-    search rules
+joined-returns-in_err-next t c = let f = begun_fails (join_of c.args.join) c.loop-next.invariant c.in_err-next.ensures in search rules
 
-pub joined-loop-join-preserved : goal.joined-loop-join-preserved
-joined-loop-join-preserved t c =
-    let h = rw c.byte.ensures at (c.stands.ensures.holds c.loop-join-test.true) in
-    rw c.of.ensures (join_more (join_of c.args.join) c.loop-join.invariant h c.in_ok-next.ensures)
+pub joined-returns-then-not-stands : goal.joined-returns-then-not-stands
+joined-returns-then-not-stands t c =
+    let more = begun_more (join_of c.args.join) c.loop-next.invariant c.in_ok-next.ensures in
+    rw c.of-all.ensures (join_found (join_of c.args.join) more (rw (← c.byte.ensures) (c.stands.ensures.fails c.if-not-stands.true)))
 
-pub joined-returns : goal.joined-returns
-joined-returns t c = join_found (join_of c.args.join) c.loop-join.invariant (rw (← c.byte.ensures) (c.stands.ensures.fails c.loop-join-test.false))
+pub joined-loop-next-preserved : goal.joined-loop-next-preserved
+joined-loop-next-preserved t c =
+    let h = rw c.byte.ensures at (c.stands.ensures.holds c.if-not-stands.false) in
+    rw c.of-all.ensures (some refl (begun_more (join_of c.args.join) c.loop-next.invariant c.in_ok-next.ensures) h)
 
 -- a factor behind `!`
 pub factor-overflow_add-at : goal.factor-overflow_add-at
