@@ -50,7 +50,7 @@ impl<'a> Queue<'a> {
         ensures lent { Lent self.old self.new }
     {
         let couple = sound.couple(state, setting);
-        let moved = sound.couple(sound.moved(state, setting), setting);
+        let moved = sound.couple(usize::from(sound.job.table[couple]), setting);
         self.push(couple, offer);
         if moved != couple {
             self.push(moved, offer);

@@ -1,18 +1,18 @@
 // Expected readings (document 01, "Runs and ranks"): what a board that moves as the specification says shows on a run.
 #![tactic(auto)]
 
-ghost use Rattle.std.specs.Prelude.{◌≡◌, true, ℕ, get_or, length, IfOk};
+ghost use Rattle.std.specs.Prelude.{◌≡◌, true, ℕ, ◌<◌, ◌^◌, get_or, length, IfOk};
 ghost use Rattle.verdict.specs.Checks.{Judged, Passed};
 ghost use Rattle.verdict.specs.Refusals.{answer_of, verdict_of};
 ghost use Rattle.verdict.specs.Buffers.{Front};
-ghost use Rattle.machine.specs.Runs.{machine_of, machine_by};
+ghost use Rattle.machine.specs.Runs.{machine_of, machine_by, move};
 ghost use Rattle.machine.specs.Boards.{readings as readingsOn, specified};
 ghost use Rattle.tables.specs.Tables.{machine_in};
 ghost use Rattle.readings.specs.Expected.{readings_needed, shape_checks, ExpectedAs};
 ghost use Rattle.readings.specs.inner.Walking.{Walkable};
 
 use machine::Frame;
-use runs::check_run;
+use runs::{check_run, setting};
 use tables::Job;
 use tables::jobs::{SizedJob, SoundJob};
 use verdict::{Refusal, Room};
@@ -95,13 +95,21 @@ fn fill(sound: SoundJob, words: &[u16], run: &[u8], readings: &mut [u16])
     requires { Walkable (machine_in sound.job) (length words.now) run.now (length readings.old) }
     ensures { Front (readingsOn (specified (machine_in sound.entry.job) (λ (s : ℕ). get_or words.now s 0)) run.now) readings.old readings.new }
 {
-    let mut state = sound.moved(sound.job.frame.initial, usize::from(run[0]));
+    let mut state = move_of(sound, sound.job.frame.initial, setting(run, 0));
     readings[0] = words[state];
     for i in 1..run.len() {
-        let setting = usize::from(run[i]);
-        let moved = sound.moved(state, setting);
+        let next = setting(run, i);
+        let moved = move_of(sound, state, next);
         readings[2 * i - 1] = words[moved];
-        state = sound.moved(moved, setting);
+        state = move_of(sound, moved, next);
         readings[2 * i] = words[state];
     }
+}
+
+// The move of the couple (s, v).
+fn move_of(sound: SoundJob, s: usize, v: usize) -> usize
+    requires { (s < sound.job.frame.states) × (v < 2 ^ sound.job.frame.inputs) }
+    ensures { (result ≡ move (machine_in sound.entry.job) s v) × (result < sound.entry.job.frame.states) }
+{
+    usize::from(sound.job.table[sound.couple(s, v)])
 }

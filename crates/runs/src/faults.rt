@@ -6,6 +6,7 @@ ghost use Rattle.machine.specs.Runs.{Changes, Fault};
 ghost use Rattle.tables.specs.Tables.{machine_in};
 ghost use Rattle.runs.specs.Faults.{fault_checks};
 
+use crate::stored::setting;
 use tables::Job;
 use tables::jobs::SizedJob;
 use verdict::Refusal;
@@ -27,13 +28,16 @@ pub fn check_run(job: Job, run: &[u8]) -> Result<(), Refusal>
 pub(crate) fn first_fault(sized: SizedJob, run: &[u8]) -> Option<usize>
     ensures { Finds (Fault (machine_in sized.entry.job) run.now) result }
 {
-    if run.is_empty() || !sized.is_start(usize::from(run[0])) {
+    let mut from = setting(run, 0);
+    if run.is_empty() || !sized.is_start(from) {
         return Some(0);
     }
     for i in 1..run.len() {
-        if !may_change(sized, usize::from(run[i - 1]), usize::from(run[i])) {
+        let to = setting(run, i);
+        if !may_change(sized, from, to) {
             return Some(i);
         }
+        from = to;
     }
     None
 }
@@ -49,8 +53,7 @@ fn may_change(sized: SizedJob, from: usize, to: usize) -> bool
     }
     let altered = (from ^ to).count_ones();
     if sized.job.several {
-        altered > 0
-    } else {
-        altered == 1
+        return altered > 0;
     }
+    altered == 1
 }

@@ -164,9 +164,10 @@ fn change(sound: SoundJob, state: usize, setting: usize) -> Visited
     requires { (state < sound.job.frame.states) × (setting < 2 ^ sound.job.frame.inputs) }
     ensures { Changed (machine_in sound.entry.job) state setting result }
 {
-    let moved = sound.moved(state, setting);
+    let entered = sound.couple(state, setting);
+    let moved = usize::from(sound.job.table[entered]);
     Visited {
-        entered: sound.couple(state, setting),
+        entered,
         moved: sound.couple(moved, setting),
         state: moved,
     }

@@ -20,6 +20,13 @@ module _ (m : Machine) where
   pub started_only : (r s : Bool) → Decides (Tabled m × ((v : ℕ) × Starts m v)) r → Decides (Tabled m × ((v : ℕ) × Starts m v)) s → r ≡ s
   started_only r s = decides_unique _ r s
 
+  -- the same of a job whose sizes passed, which is what marking and the search for faults ask
+  pub sized_is_start_only : (v : ℕ) (r s : Bool) → Decides (Starts m v) r → Decides (Starts m v) s → r ≡ s
+  sized_is_start_only v r s = decides_unique _ r s
+
+  pub sized_started_only : (r s : Bool) → Decides ((v : ℕ) × Starts m v) r → Decides ((v : ℕ) × Starts m v) s → r ≡ s
+  sized_started_only r s = decides_unique _ r s
+
   pub check_sizes_only : {a b : Answer} → Judged (size_checks m) Passed a → Judged (size_checks m) Passed b → a ≡ b
   check_sizes_only v w = judged_unique v w
 

@@ -1,5 +1,5 @@
 // Tables that passed checks: jobs whose type says so, and the checks that they go on to, 4 and 10 to 13.
-ghost use Rattle.std.specs.Prelude.{◌≡◌, false, ℕ, ◌*◌, ◌<◌, ◌≤◌, ◌^◌, length, get_or, IfOk};
+ghost use Rattle.std.specs.Prelude.{◌≡◌, false, ℕ, ◌*◌, ◌%◌, ◌<◌, ◌≤◌, ◌^◌, length, get_or, IfOk};
 ghost use Rattle.verdict.specs.Checks.{Decides, Finds, Nowhere, Passed, Judged};
 ghost use Rattle.verdict.specs.Refusals.{verdict_of};
 ghost use Rattle.machine.specs.Moves.{table_moves, Stateless, Transient, SameWord, Reached, Unreached};
@@ -39,14 +39,12 @@ impl<'a> SizedJob<'a> {
         self.job.frame.states * self.settings()
     }
 
-    // The number of the couple (s, v).
+    // The number of the couple (s, v), in 64 bits.
     pub fn couple(self, s: usize, v: usize) -> usize
-        requires state { s < self.job.frame.states }
-        requires setting { v < 2 ^ self.job.frame.inputs }
-        ensures is { result ≡ couple (machine_in self.entry.job) s v }
-        ensures inside { result < couples (machine_in self.entry.job) }
+        ensures is { result ≡ couple (machine_in self.entry.job) s v % 2 ^ 64 }
+        ensures inside { s < self.entry.job.frame.states → v < 2 ^ self.entry.job.frame.inputs → (result ≡ couple (machine_in self.entry.job) s v) × (result < couples (machine_in self.entry.job)) }
     {
-        s * self.settings() + v
+        s.wrapping_mul(self.settings()).wrapping_add(v)
     }
 
     // The move of the couple (s, v).
@@ -137,24 +135,12 @@ impl<'a> SoundJob<'a> {
         self.sized().couples()
     }
 
-    // The number of the couple (s, v).
+    // The number of the couple (s, v), in 64 bits.
     pub fn couple(self, s: usize, v: usize) -> usize
-        requires state { s < self.job.frame.states }
-        requires setting { v < 2 ^ self.job.frame.inputs }
-        ensures is { result ≡ couple (machine_in self.entry.job) s v }
-        ensures inside { result < couples (machine_in self.entry.job) }
+        ensures is { result ≡ couple (machine_in self.entry.job) s v % 2 ^ 64 }
+        ensures inside { s < self.entry.job.frame.states → v < 2 ^ self.entry.job.frame.inputs → (result ≡ couple (machine_in self.entry.job) s v) × (result < couples (machine_in self.entry.job)) }
     {
         self.sized().couple(s, v)
-    }
-
-    // The move of the couple (s, v).
-    pub fn moved(self, s: usize, v: usize) -> usize
-        requires state { s < self.job.frame.states }
-        requires setting { v < 2 ^ self.job.frame.inputs }
-        ensures is { result ≡ move (machine_in self.entry.job) s v }
-        ensures state { result < self.entry.job.frame.states }
-    {
-        self.sized().moved(s, v)
     }
 
     // Refusals 11, 12 and 13.

@@ -25,5 +25,5 @@ counted job v w from to free e =
 pub returns-then-sized : goal.returns-then-sized
 returns-then-sized c = let a = c.args in counted a.sized.job a.from a.to c.requires (omega arith) (sym c.usable.ensures ∙ c.if-not-usable.false) c.if-sized.true
 
-pub returns-else-sized : goal.returns-else-sized
-returns-else-sized c = let a = c.args in counted a.sized.job a.from a.to c.requires (omega arith) (sym c.usable.ensures ∙ c.if-not-usable.false) c.if-sized.false
+pub returns : goal.returns
+returns c = let a = c.args in counted a.sized.job a.from a.to c.requires (omega arith) (sym c.usable.ensures ∙ c.if-not-usable.false) c.if-sized.false

@@ -14,8 +14,8 @@ loop-v-preserved c =
     let m = machine_in c.args.sized.job in
     let inv = c.loop-v.invariant in
     elim c.if-is_start.branch [
-      | then-is_start w ↦ rw w.self-is (
-        one_more (ByStart m) c.loop-v.v (omega arith) inv.0 (pushed_as (λ d e. (c.is_start.ensures.holds w.if-is_start.true, e ∙ w.couple.ensures.is)) (λ d e. e.1 ∙ sym w.couple.ensures.is) w.push.ensures.pushed),
+      | then-is_start w ↦ let is = (w.couple.ensures.inside c.args.sized.tabled.sized.begins (omega arith)).0 in rw w.self-is (
+        one_more (ByStart m) c.loop-v.v (omega arith) inv.0 (pushed_as (λ d e. (c.is_start.ensures.holds w.if-is_start.true, e ∙ is)) (λ d e. e.1 ∙ sym is) w.push.ensures.pushed),
         lent_then c.args.self.now c.loop-v.self w.push.new.self inv.1 w.push.ensures.lent,
       )
       | else-is_start w ↦ rw w.self-is (one_passed (ByStart m) c.loop-v.v (omega arith) inv.0 (λ d e. c.is_start.ensures.fails w.if-is_start.false e.0), inv.1)

@@ -1,5 +1,5 @@
 -- `first_unreached` searches the states for one that `reached` leaves out.
-use Rattle.std.proofs.Common.{◌≡◌, arith, rules, tests, true, false, get_or}
+use Rattle.std.proofs.Common.{◌≡◌, rules, tests, true, false, get_or}
 use Rattle.std.proofs.lemmas.Iterator.{first_from_Range}
 use Rattle.verdict.proofs.Found.{found}
 use Rattle.tables.proofs.jobs.SoundJob.first_unreached.Goals as goal
