@@ -15,6 +15,7 @@ use crate::marked::Marked;
 use machine::{COUPLES, Frame};
 use marking::{EXTRA, UNWEIGHED, mark_parents};
 use tables::Job;
+use tables::jobs::SizedJob;
 use verdict::Refusal;
 
 mod choosing;
@@ -55,7 +56,7 @@ fn run_by(job: Job, ranks: &mut [u16], couple: usize, run: &mut [u8]) -> Result<
     let mut weights = [0u32; COUPLES];
     let mut parents = [0u16; COUPLES];
     mark_parents(job, ranks, &mut weights, &mut parents)?;
-    Marked::of(job, &weights, &parents).run_to(couple, run)
+    Marked::of(SizedJob { job }, &weights, &parents).run_to(couple, run)
 }
 
 // Writes the plan in its stored form and answers how many bytes it has; or the first failing check at its smallest place. The ranks are
@@ -90,7 +91,7 @@ fn plan_by(job: Job, ranks: &mut [u16], out: &mut [u8]) -> Result<usize, Refusal
     let mut weights = [0u32; COUPLES];
     let mut parents = [0u16; COUPLES];
     mark_parents(job, ranks, &mut weights, &mut parents)?;
-    Marked::of(job, &weights, &parents).plan(out)
+    Marked::of(SizedJob { job }, &weights, &parents).plan(out)
 }
 
 impl<'a> Marked<'a> {

@@ -1,7 +1,6 @@
 // What marking leaves: the weight of the run to each couple and the couple before it on that run.
 ghost use Rattle.plan.specs.inner.Choosing.{Room};
 
-use tables::Job;
 use tables::jobs::SizedJob;
 
 // The weights and parents of a job's couples, by which the runs of its plan, or of its list, are chosen and written.
@@ -19,19 +18,17 @@ pub(crate) struct Marked<'a> {
 impl<'a> Marked<'a> {
     ghost use Rattle.std.specs.Prelude.{◌≡◌};
     ghost use Rattle.machine.specs.Runs.{size, couples};
-    ghost use Rattle.tables.specs.Tables.{machine_in, Tabled};
+    ghost use Rattle.tables.specs.Tables.{machine_in};
 
     // What marking left of a job that it did not refuse.
-    pub(crate) fn of(job: Job<'a>, weights: &'a [u32], parents: &'a [u16]) -> Self
-        requires tabled { Tabled (machine_in job) }
-        requires room { Room job.table.now parents.now weights.now (size (machine_in job)) (couples (machine_in job)) }
-        ensures numbers { (result.several ≡ job.entry.several) × (result.size ≡ size (machine_in job.entry)) × (result.couples ≡ couples (machine_in job.entry)) }
-        ensures lists { (result.table.now ≡ job.entry.table.now) × (result.weights.now ≡ weights.now) × (result.parents.now ≡ parents.now) }
+    pub(crate) fn of(sized: SizedJob<'a>, weights: &'a [u32], parents: &'a [u16]) -> Self
+        requires { Room sized.job.table.now parents.now weights.now (size (machine_in sized.job)) (couples (machine_in sized.job)) }
+        ensures numbers { (result.several ≡ sized.entry.job.several) × (result.size ≡ size (machine_in sized.entry.job)) × (result.couples ≡ couples (machine_in sized.entry.job)) }
+        ensures lists { (result.table.now ≡ sized.entry.job.table.now) × (result.weights.now ≡ weights.now) × (result.parents.now ≡ parents.now) }
     {
-        let sized = SizedJob { job };
         Marked {
-            several: job.several,
-            table: job.table,
+            several: sized.job.several,
+            table: sized.job.table,
             weights,
             parents,
             size: sized.settings(),

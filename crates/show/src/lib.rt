@@ -14,6 +14,7 @@ ghost use Rattle.show.specs.inner.Steps.{Adds, first_run};
 
 use crate::ranks::{COUNTED, count_each, count_of, levels, marked};
 use crate::text::Text;
+use runs::run_end;
 
 // The buffer ends before the text does.
 #[derive(Clone, Copy, Debug, PartialEq, Eq)]
@@ -141,11 +142,11 @@ impl Text<'_> {
 fn first_run(stored: &[u8]) -> Option<(&[u8], &[u8])>
     ensures { MatchOption result (first_run stored.now ≡ None) (λ p. first_run stored.now ≡ Some (p.0.now, p.1.now)) }
 {
-    let [low, high, rest @ ..] = stored else {
+    if stored.len() < 2 {
         return None;
-    };
-    let count = two_bytes(*low, *high);
-    Some(rest.split_at(count.min(rest.len())))
+    }
+    let (run, others) = stored.split_at(run_end(stored, 0));
+    Some((&run[2..], others))
 }
 
 // A number in two bytes, low byte first.

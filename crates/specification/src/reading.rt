@@ -3,8 +3,7 @@ ghost use Rattle.std.specs.Prelude.{◌≡◌, Ok, ◌≤◌, length, IfOk};
 ghost use Rattle.verdict.specs.Checks.{Passed, Judged};
 ghost use Rattle.verdict.specs.Refusals.{verdict_of};
 ghost use Rattle.verdict.specs.Buffers.{Filled};
-ghost use Rattle.machine.specs.Runs.{machine_of};
-ghost use Rattle.tables.specs.Tables.{Tabled};
+ghost use Rattle.tables.specs.Tables.{machine_in};
 ghost use Rattle.specification.specs.Limits.{blank_move, blank_word};
 ghost use Rattle.specification.specs.Records.{settings, couples, word as word_of};
 ghost use Rattle.specification.specs.Rules.{MoveAt, FrameOf};
@@ -20,6 +19,7 @@ use crate::specification::Specification;
 use crate::texts::Texts;
 use machine::Frame;
 use tables::Job;
+use tables::jobs::SizedJob;
 use verdict::{Refusal, Room, check_rooms};
 
 // What the words hold after a refusal.
@@ -67,11 +67,11 @@ fn fill_words(specification: Specification, words: &mut [u16])
 }
 
 // Refusals 9 to 13: those of the filled table and words, a blank being no state.
-fn check_moves(frame: Frame, table: &[u8], words: &[u16]) -> Result<(), Refusal>
-    requires { Tabled (machine_of frame table.now) × (frame.states ≤ length words.now) }
-    ensures { Judged (filled_checks (machine_of frame table.now) words.now) Passed (verdict_of result) }
+fn check_moves(sized: SizedJob, words: &[u16]) -> Result<(), Refusal>
+    requires { sized.job.frame.states ≤ length words.now }
+    ensures { Judged (filled_checks (machine_in sized.entry.job) words.now) Passed (verdict_of result) }
 {
-    let Err(refusal) = Job::single(frame, table).check_sound(words) else {
+    let Err(refusal) = sized.job.check_sound(words) else {
         return Ok(());
     };
     match refusal {
@@ -108,7 +108,8 @@ fn settle(
     if let Some(couple) = texts.fill_moves(&next, table) {
         return Err(Refusal::TwoRules(couple));
     }
-    check_moves(frame, table, words)
+    let job = Job::single(frame, table);
+    check_moves(SizedJob { job }, words)
 }
 
 fn blank_table(table: &mut [u8], count: usize)

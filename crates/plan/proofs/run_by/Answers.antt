@@ -11,8 +11,8 @@ returns-in_err-mark_parents c =
     let p = err_from_is_err_and c.from_residual.result c.from_residual.ensures.1 in
     rw (p.1, p.2) (run_refused job.several job.frame job.table.now c.in_err-mark_parents.field-0.0 c.in_err-mark_parents.ensures refl refl c.args.couple c.args.run.now)
 
-pub of-requires-clause-room : goal.of-requires-clause-room
-of-requires-clause-room c = room (ready c.in_ok-mark_parents.ensures refl refl refl)
+pub of-requires : goal.of-requires
+of-requires c = room (ready c.in_ok-mark_parents.ensures refl refl refl)
 
 pub returns : goal.returns
 returns c =
