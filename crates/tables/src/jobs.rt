@@ -143,6 +143,17 @@ impl<'a> SoundJob<'a> {
         self.sized().couple(s, v)
     }
 
+    // The move of the couple (s, v): what the table has at its number in 64 bits, and 0 beyond the table.
+    pub fn moved(self, s: usize, v: usize) -> usize
+        ensures is { result ≡ get_or self.entry.job.table.now (couple (machine_in self.entry.job) s v % 2 ^ 64) 0 }
+        ensures inside { s < self.entry.job.frame.states → v < 2 ^ self.entry.job.frame.inputs → (result ≡ move (machine_in self.entry.job) s v) × (result < self.entry.job.frame.states) }
+    {
+        self.job
+            .table
+            .get(self.couple(s, v))
+            .map_or(0, |&t| usize::from(t))
+    }
+
     // Refusals 11, 12 and 13.
     pub(crate) fn check_states(self, words: &[u16]) -> Result<(), Refusal>
         requires { self.job.frame.states ≤ length words.now }
@@ -202,4 +213,39 @@ fn first_same(words: &[u16], states: usize) -> Option<usize>
         }
     }
     None
+}
+
+#[cfg(test)]
+mod tests {
+    use crate::Job;
+    use machine::Frame;
+    use sets::WORDS;
+    use std::test::Fail;
+
+    // Document 01's lamp, a number beyond its table, and one that comes round.
+    #[test]
+    fn moves(rt: HostRuntime) -> Result<(), Fail> {
+        let frame = Frame {
+            inputs: 1,
+            states: 2,
+            initial: 0,
+            never: [0; WORDS],
+            starts: [0; WORDS],
+        };
+        let sound = Job::single(frame, &[0, 1, 0, 1])
+            .check_table()
+            .ok()
+            .ok_or("refused")?;
+        for (s, v, to) in [
+            (0, 0, 0),
+            (0, 1, 1),
+            (1, 0, 0),
+            (1, 1, 1),
+            (1, 2, 0),
+            (usize::MAX, 3, 1),
+        ] {
+            assert_eq!(rt; sound.moved(s, v), to, "at ({s}, {v})");
+        }
+        Ok(())
+    }
 }
