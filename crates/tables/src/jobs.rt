@@ -232,10 +232,7 @@ mod tests {
             never: [0; WORDS],
             starts: [0; WORDS],
         };
-        let sound = Job::single(frame, &[0, 1, 0, 1])
-            .check_table()
-            .ok()
-            .ok_or("refused")?;
+        let sound = Job::single(frame, &[0, 1, 0, 1]).check_table()?;
         for (s, v, to) in [
             (0, 0, 0),
             (0, 1, 1),
